@@ -1,0 +1,78 @@
+-- Loop's step: every level of a sound mesh is sound, its masks name points of the level below, and so partial refreshing is whole refreshing.
+-- Assumes nothing.
+use mathlib.Core.Path.{_≡_, refl, ap}
+use mathlib.Core.Bool.{Bool, false, _||_}
+use mathlib.Core.List.{List, [], _∷_, map}
+use mathlib.Core.Logic.{⊎-elim}
+use Prim.Native.Nat.{ℕ, zero, suc, _+_, _≤_, _<_}
+use native.Mathlib.Omega.{arith}
+use lib.IntN.{ℤ}
+use borrow.Author.Tests.{lt-ltb, le-ltb}
+use Rattle.mesh.specs.Ring.{_∈_, next, prev}
+use Rattle.mesh.specs.Mesh.{Mesh, Sound, edges}
+use Rattle.mesh.specs.Refine.{lowEnd, highEnd, level}
+use Rattle.mesh.specs.Mask.{SourcesBelow, Grounded, touched, anySource, refined, refreshed}
+use Rattle.mesh.specs.Loop.{term, loopMask, loop}
+use Rattle.mesh.proofs.Lists.{lt-split, here, there}
+use Rattle.mesh.proofs.Rings.{next-in, prev-in}
+use Rattle.mesh.proofs.Edges as E
+use Rattle.mesh.proofs.Refined.{refine-sound, refine-count}
+use Rattle.mesh.proofs.Refresh.{refreshed-is-refined}
+
+pub level-sound : (M : Mesh) → Sound M → (k : ℕ) → Sound (level M k)
+unfolding level
+level-sound M S zero = S
+level-sound M S (suc k) = refine-sound (level M k) (level-sound M S k)
+
+sources-ring : (n : ℕ) (l : List ℕ) → ((u : ℕ) → u ∈ l → u < n) → SourcesBelow n (map (term 3) l)
+sources-ring n [] h = tt
+sources-ring n (a ∷ l) h = (h a (here a l), sources-ring n l (λ u m. h u (there u a l m)))
+
+mask-grounded : (M : Mesh) → Sound M → (x : ℕ) → x < M .count + edges M → SourcesBelow (M .count) (loopMask M x .terms)
+unfolding loopMask
+mask-grounded M S x h =
+    ⊎-elim
+    (λ l. rw (l .0) (l .1, sources-ring (M .count) (M .ring x) (S .proper x (l .1) .known)))
+    (λ l.
+    let p : ℕ = lowEnd M x in
+    let q : ℕ = highEnd M x in
+    let e = E.ends M (S .proper) (S .mutual′) x (l .1) h in
+    let g : p < M .count = omega arith in
+    rw (l .0)
+    (g, (e .1, (S .proper p g .known (next (M .ring p) q) (next-in (M .ring p) q (e .2)), (S .proper p g .known (prev (M .ring p) q) (prev-in (M .ring p) q (e .2)), tt)))))
+    (lt-split x (M .count))
+
+pub loop-grounded : (M : Mesh) → Sound M → Grounded (loop M)
+unfolding loop level
+loop-grounded M S k x h = mask-grounded (level M k) (level-sound M S k) x (rw (refine-count (level M k) (level-sound M S k)) at h)
+
+-- demand 3, for Loop's step, on one coordinate
+module _ (M : Mesh) (S : Sound M) (named : ℕ → Bool) (before after : ℕ → ℤ) where
+  pub loop-refresh : ((v : ℕ) → v < M .count → named v ≡ false → after v ≡ before v)
+      → (held : ℕ → ℕ → ℤ) → ((k x : ℕ) → x < level M k .count → held k x ≡ refined (loop M) before k x)
+      → (k x : ℕ) → x < level M k .count → refreshed (loop M) named held after k x ≡ refined (loop M) after k x
+  unfolding loop level
+  loop-refresh moved held was k x h = refreshed-is-refined (loop M) (loop-grounded M S) named before after moved held was k x h
+
+-- the touched rule as document 01 has it
+abbrev pub any-ring : (t : ℕ → Bool) → List ℕ → Bool
+any-ring t [] = false
+any-ring t (a ∷ l) = t a || any-ring t l
+
+any-terms : (t : ℕ → Bool) (l : List ℕ) → anySource t (map (term 3) l) ≡ any-ring t l
+any-terms t [] = refl
+any-terms t (a ∷ l) = ap (λ b. t a || b) (any-terms t l)
+
+pub touched-old : (M : Mesh) (named : ℕ → Bool) (k v : ℕ) → v < level M k .count
+    → touched (loop M) named (suc k) v ≡ (touched (loop M) named k v || any-ring (touched (loop M) named k) (level M k .ring v))
+unfolding touched loop loopMask
+touched-old M named k v h = rw (lt-ltb v (level M k .count) h) (ap (λ b. touched (loop M) named k v || b) (any-terms (touched (loop M) named k) (level M k .ring v)))
+
+pub touched-new : (M : Mesh) (named : ℕ → Bool) (k x : ℕ) → level M k .count ≤ x
+    → let N = level M k in
+    let t = touched (loop M) named k in
+    let p = lowEnd N x in
+    let q = highEnd N x in
+    touched (loop M) named (suc k) x ≡ (t p || (t q || (t (next (N .ring p) q) || (t (prev (N .ring p) q) || false))))
+unfolding touched loop loopMask
+touched-new M named k x h = rw (le-ltb x (level M k .count) h)

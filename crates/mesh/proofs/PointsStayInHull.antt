@@ -1,0 +1,25 @@
+-- Refinement leaves no range of coordinates: where every control coordinate lies from lo to hi, so does every coordinate of every level
+-- (document 01, "Refinement, one level"; each mask is a mean, and rounding a mean keeps whole bounds).
+-- Assumes nothing.
+use Prim.Native.Nat.{ℕ, _≤_, _<_}
+use lib.IntN.{ℤ, pos, subℕ, natAbs}
+use Rattle.mesh.specs.Mesh.{Mesh, Sound}
+use Rattle.mesh.specs.Refine.{level}
+use Rattle.mesh.specs.Mask.{refined}
+use Rattle.mesh.specs.Loop.{loop}
+use Rattle.mesh.proofs.Lifted.{near-both, both-near}
+use Rattle.mesh.proofs.Hull.{Within, levels-within}
+use Rattle.mesh.proofs.Levels.{level-sound, loop-grounded}
+use Rattle.mesh.proofs.Means.{loop-mean}
+
+module _ (M : Mesh) (S : Sound M) (control : ℕ → ℤ) where
+  -- the theorem, on one coordinate
+  pub points-stay-in-hull : (lo hi : ℤ) → ((v : ℕ) → v < M .count → Within lo hi (control v)) → (k x : ℕ) → x < level M k .count → Within lo hi (refined (loop M) control k x)
+  unfolding loop level
+  points-stay-in-hull lo hi within = levels-within (loop M) (loop-grounded M S) (λ k x h. loop-mean (level M k) (level-sound M S k) x) lo hi control within
+
+  -- so a range around zero is kept
+  pub range-is-kept : (most : ℕ) → ((v : ℕ) → v < M .count → natAbs (control v) ≤ most) → (k x : ℕ) → x < level M k .count → natAbs (refined (loop M) control k x) ≤ most
+  range-is-kept most near k x h =
+      let w = points-stay-in-hull (subℕ 0 most) (pos most) (λ v g. let b = near-both most (control v) (near v g) in record { low = b .0; high = b .1 }) k x h in
+      both-near most (refined (loop M) control k x) (w .low) (w .high)
