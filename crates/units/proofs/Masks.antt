@@ -1,0 +1,64 @@
+-- Loop's two masks give document 01's two formulas. Assumes nothing.
+use mathlib.Core.Path.{_≡_, refl, sym, ap, _∙_}
+use mathlib.Core.Bool.{Bool, true, false, cond}
+use mathlib.Core.List.{List, [], _∷_, map}
+use Prim.Native.Nat.{ℕ, suc, _+_, _*_}
+use native.Mathlib.Omega.{arith}
+use lib.Dec.{eqb}
+use lib.IntN.{ℤ, pos, negsuc, _+ℤ_, _*ℤ_}
+use lib.ListN.{length}
+use Rattle.mesh.specs.Round.{Is, rounded}
+use Rattle.mesh.specs.Mask.{weighted, byMask}
+use Rattle.mesh.specs.Loop.{term, vertexMask, edgeMask}
+use Rattle.mesh.proofs.Ints.{sub-neg, sub-eq, plus, times, self-pos}
+use Rattle.units.specs.Points.{edgePoint, vertexPoint, ringSum}
+
+-- every whole number is a difference of two natural ones
+record Whole (z : ℤ) : Type 0 where
+  up : ℕ
+  down : ℕ
+  is : Is z up down
+
+whole : (z : ℤ) → Whole z
+whole (pos k) = record { up = k; down = 0; is = self-pos k }
+whole (negsuc k) = record { up = 0; down = suc k; is = record { is = sym (sub-neg 0 (suc k) k (omega arith)) } }
+
+same : {x y : ℤ} {a b c d : ℕ} → Is x a b → Is y c d → a + d ≡ c + b → x ≡ y
+same {a = a} {b} {c} {d} p q e = p .is ∙ sub-eq a b c d e ∙ sym (q .is)
+
+edge-sum : (p q a b : ℤ) → pos 3 *ℤ p +ℤ (pos 3 *ℤ q +ℤ (pos 1 *ℤ a +ℤ (pos 1 *ℤ b +ℤ pos 0))) ≡ pos 3 *ℤ (p +ℤ q) +ℤ a +ℤ b
+edge-sum p q a b =
+    let p′ = whole p in
+    let q′ = whole q in
+    let a′ = whole a in
+    let b′ = whole b in
+    same (plus (times 3 (p′ .is)) (plus (times 3 (q′ .is)) (plus (times 1 (a′ .is)) (plus (times 1 (b′ .is)) (self-pos 0)))))
+    (plus (plus (times 3 (plus (p′ .is) (q′ .is))) (a′ .is)) (b′ .is)) (omega arith)
+
+three : (x y : ℤ) → pos 3 *ℤ x +ℤ pos 3 *ℤ y ≡ pos 3 *ℤ (x +ℤ y)
+three x y =
+    let x′ = whole x in
+    let y′ = whole y in
+    same (plus (times 3 (x′ .is)) (times 3 (y′ .is))) (times 3 (plus (x′ .is) (y′ .is))) (omega arith)
+
+ring-sum : (at : ℕ → ℤ) (ring : List ℕ) → weighted (map (term 3) ring) at ≡ pos 3 *ℤ ringSum at ring
+ring-sum at [] = refl
+ring-sum at (u ∷ ring) = ap (λ (z : ℤ). pos 3 *ℤ at u +ℤ z) (ring-sum at ring) ∙ three (at u) (ringSum at ring)
+
+-- (3(p + q) + a + b) / 8
+pub edge-mask : (p q a b : ℕ) (at : ℕ → ℤ) → byMask (edgeMask p q a b) at ≡ edgePoint (at p) (at q) (at a) (at b)
+unfolding byMask edgePoint
+edge-mask p q a b at = ap (λ (z : ℤ). rounded z 8) (edge-sum (at p) (at q) (at a) (at b))
+
+-- (7v + 3s) / 16 if n = 3, else (5nv + 3s) / 8n
+pub vertex-mask : (v : ℕ) (ring : List ℕ) (at : ℕ → ℤ) → byMask (vertexMask v ring) at ≡ vertexPoint (length ring) (at v) (ringSum at ring)
+unfolding byMask vertexPoint
+vertex-mask v ring at = go (eqb n 3)
+  where
+    n : ℕ
+    n = length ring
+
+    go : (b : Bool) → rounded (pos (cond b 7 (5 * n)) *ℤ at v +ℤ weighted (map (term 3) ring) at) (cond b 16 (8 * n))
+        ≡ cond b (rounded (pos 7 *ℤ at v +ℤ pos 3 *ℤ ringSum at ring) 16) (rounded (pos (5 * n) *ℤ at v +ℤ pos 3 *ℤ ringSum at ring) (8 * n))
+    go true = ap (λ (z : ℤ). rounded (pos 7 *ℤ at v +ℤ z) 16) (ring-sum at ring)
+    go false = ap (λ (z : ℤ). rounded (pos (5 * n) *ℤ at v +ℤ z) (8 * n)) (ring-sum at ring)
