@@ -1,0 +1,65 @@
+-- What every call answers on paper: a number, a place and values, as section "What comes back when we say no" has them.
+-- Assumes nothing.
+use Prim.Native.Nat.{ℕ}
+use Rattle.rings.specs.declared.Refusal.{Refusal}
+use Rattle.rings.specs.declared.Refusal.the-variants.{ControlTooShort, BadCount, NoVertex, ImproperRing, OneSided, OpenFace, TooFar, BadLevels, LevelTooLarge, NoRoom, NotAsRefined, TooManyMoves, NotFinite, Outside, AlreadyThere, RingFull, BadFile}
+
+-- number, place, and what the call gives: V, E and F, or one number in the first of the three
+pub record Paper : Type 0 where
+  pub number : ℕ
+  pub place : ℕ
+  pub first : ℕ
+  pub second : ℕ
+  pub third : ℕ
+
+-- number 0, place 0, and the values
+abbrev pub accepted : ℕ → ℕ → ℕ → Paper
+accepted a b c = record { number = 0; place = 0; first = a; second = b; third = c }
+
+-- the number of a reason and its place; d is what is answered in place of a value
+abbrev pub refused : ℕ → ℕ → ℕ → Paper
+refused number place d = record { number = number; place = place; first = d; second = 0; third = 0 }
+
+-- the number of each reason, as document 01's table has it
+abbrev pub numberOf : Refusal → ℕ
+numberOf ControlTooShort = 1
+numberOf BadCount = 2
+numberOf (NoVertex i) = 3
+numberOf (ImproperRing v) = 4
+numberOf (OneSided v) = 5
+numberOf (OpenFace v) = 6
+numberOf (TooFar v) = 7
+numberOf BadLevels = 8
+numberOf (LevelTooLarge k) = 9
+numberOf NoRoom = 10
+numberOf (NotAsRefined x) = 11
+numberOf TooManyMoves = 12
+numberOf (NotFinite i) = 13
+numberOf (Outside i) = 14
+numberOf AlreadyThere = 15
+numberOf RingFull = 16
+numberOf (BadFile at) = 17
+
+-- the place of each: what its case carries, or 0
+abbrev pub placeOf : Refusal → ℕ
+placeOf ControlTooShort = 0
+placeOf BadCount = 0
+placeOf (NoVertex i) = i
+placeOf (ImproperRing v) = v
+placeOf (OneSided v) = v
+placeOf (OpenFace v) = v
+placeOf (TooFar v) = v
+placeOf BadLevels = 0
+placeOf (LevelTooLarge k) = k
+placeOf NoRoom = 0
+placeOf (NotAsRefined x) = x
+placeOf TooManyMoves = 0
+placeOf (NotFinite i) = i
+placeOf (Outside i) = i
+placeOf AlreadyThere = 0
+placeOf RingFull = 0
+placeOf (BadFile at) = at
+
+-- what a refused call gives on paper
+abbrev pub reason : Refusal → ℕ → Paper
+reason r d = refused (numberOf r) (placeOf r) d

@@ -1,0 +1,78 @@
+// The lent tables: how a ring lies in them, and whether they have room.
+ghost use mathlib.Core.Path.{_≡_};
+ghost use Prim.Native.Nat.{_≤_, _<_};
+ghost use lib.ListN.{length, getD};
+ghost use Rattle.rings.specs.Table.{ringOf};
+ghost use Rattle.rings.specs.Check.{badCount, shortRings, shortTables, improperRow};
+ghost use Rattle.rings.specs.Accepts.{Room, HasRow, Fit};
+use super::LEAST_COUNT;
+use super::MOST_COUNT;
+use super::MOST_VALENCE;
+use super::ring::has_bad;
+
+// The ring of v: the used places of its row.
+pub fn ring_of<'a, 'b>(valences: &'a [u16], rings: &'b [u16], v: usize) -> &'b [u16]
+    requires { ⌜ HasRow (now valences) (now rings) v ⌝ }
+    ensures { λ r. ⌜ now r ≡ ringOf (now (valences .entry)) (now (rings .entry)) v ⌝ }
+    ensures { λ r. ⌜ length (now r) ≡ getD (now (valences .entry)) v 0 ⌝ }
+{
+    let n = valences[v] as usize;
+    let a = v * MOST_VALENCE;
+    &rings[a..a + n]
+}
+
+// Reason 2: is the number of vertices not 4 to 1,024?
+pub fn is_bad_count(count: usize) -> bool
+    ensures { λ r. ⌜ r ≡ badCount count ⌝ }
+{
+    if count < LEAST_COUNT {
+        return true;
+    }
+    MOST_COUNT < count
+}
+
+// Reason 1, for the two tables of the ring calls.
+pub fn is_short_rings(valences: &[u16], rings: &[u16], count: usize) -> bool
+    requires { ⌜ count ≤ 1024 ⌝ }
+    ensures { λ r. ⌜ r ≡ shortRings count (now (valences .entry)) (now (rings .entry)) ⌝ }
+{
+    if valences.len() < count {
+        return true;
+    }
+    rings.len() < count * MOST_VALENCE
+}
+
+// Reason 1, for all three tables.
+pub fn is_short(valences: &[u16], rings: &[u16], positions: &[i32], count: usize) -> bool
+    requires { ⌜ count ≤ 1024 ⌝ }
+    ensures { λ r. ⌜ r ≡ shortTables count (now (valences .entry)) (now (rings .entry)) (now (positions .entry)) ⌝ }
+{
+    if is_short_rings(valences, rings, count) {
+        return true;
+    }
+    positions.len() < count * 3
+}
+
+// Is v's ring improper?
+pub fn is_improper(valences: &[u16], rings: &[u16], count: usize, v: usize) -> bool
+    requires { ⌜ v < count ⌝ }
+    requires { ⌜ Room count (now valences) (now rings) ⌝ }
+    ensures { λ r. ⌜ r ≡ improperRow count (now (valences .entry)) (now (rings .entry)) v ⌝ }
+{
+    if MOST_VALENCE < valences[v] as usize {
+        return true;
+    }
+    has_bad(ring_of(valences, rings, v), v, count)
+}
+
+// The neighbour at place i of v's ring, in tables that are fit.
+pub fn neighbour_at(valences: &[u16], rings: &[u16], count: usize, v: usize, i: usize) -> usize
+    requires { ⌜ v < count ⌝ }
+    requires { ⌜ i < getD (now valences) v 0 ⌝ }
+    requires { ⌜ Fit count (now valences) (now rings) ⌝ }
+    ensures { λ r. ⌜ r ≡ getD (ringOf (now (valences .entry)) (now (rings .entry)) v) i 0 ⌝ }
+    ensures { λ r. ⌜ r < count ⌝ }
+{
+    let ring = ring_of(valences, rings, v);
+    ring[i] as usize
+}
