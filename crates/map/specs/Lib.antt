@@ -1,0 +1,2 @@
+-- The map of touched points.
+pub mod Map
