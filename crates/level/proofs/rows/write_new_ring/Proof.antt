@@ -1,0 +1,97 @@
+-- `write_new_ring` meets its contract. Assumes nothing.
+use mathlib.Core.Path.{_∙_}
+use lib.ListN.{length-set}
+use Rattle.level.proofs.Blocks.{six-written}
+use borrow.Author.Needs.{needs}
+use native.Mathlib.Omega.{arith}
+use Rattle.level.proofs.rows.write_new_ring.Statement.{statement}
+use Rattle.level.proofs.rows.write_new_ring.Tie as tie
+
+mul-a : tie.Need-mul-a
+mul-a c = search needs
+
+mul-rings : tie.Need-mul-rings
+mul-rings c = search needs
+
+slice-write-rings : tie.Need-slice-write-rings
+slice-write-rings c = search needs
+
+add-rings : tie.Need-add-rings
+add-rings c = search needs
+
+mul-rings-2 : tie.Need-mul-rings-2
+mul-rings-2 c = search needs
+
+slice-write-rings-2 : tie.Need-slice-write-rings-2
+slice-write-rings-2 c = simp length-set (omega arith)
+
+add-rings-2 : tie.Need-add-rings-2
+add-rings-2 c = search needs
+
+mul-rings-3 : tie.Need-mul-rings-3
+mul-rings-3 c = search needs
+
+slice-write-rings-3 : tie.Need-slice-write-rings-3
+slice-write-rings-3 c = simp length-set (omega arith)
+
+add-rings-3 : tie.Need-add-rings-3
+add-rings-3 c = search needs
+
+mul-rings-4 : tie.Need-mul-rings-4
+mul-rings-4 c = search needs
+
+slice-write-rings-4 : tie.Need-slice-write-rings-4
+slice-write-rings-4 c = simp length-set (omega arith)
+
+add-rings-4 : tie.Need-add-rings-4
+add-rings-4 c = search needs
+
+mul-rings-5 : tie.Need-mul-rings-5
+mul-rings-5 c = search needs
+
+slice-write-rings-5 : tie.Need-slice-write-rings-5
+slice-write-rings-5 c = simp length-set (omega arith)
+
+add-rings-5 : tie.Need-add-rings-5
+add-rings-5 c = search needs
+
+mul-rings-6 : tie.Need-mul-rings-6
+mul-rings-6 c = search needs
+
+slice-write-rings-6 : tie.Need-slice-write-rings-6
+slice-write-rings-6 c = simp length-set (omega arith)
+
+write-unused-requires : tie.Need-write-unused-requires
+write-unused-requires c κs = (search needs, (simp length-set (omega arith), search needs))
+
+same-length : tie.Need-same-length
+same-length c = c .before .before .write-unused .kept .0 ∙ simp length-set
+
+returns : tie.Need-returns
+returns c = let s = c .before .before .before .before .before in six-written _ _ _ _ _ _ _ _ (s .pre .1) (c .before .before .write-unused .ensures)
+
+pub write-new-ring-spec : {M : Type 1} → statement M
+write-new-ring-spec =
+    tie.close
+    (tie.spec
+    mul-a
+    mul-rings
+    slice-write-rings
+    add-rings
+    mul-rings-2
+    slice-write-rings-2
+    add-rings-2
+    mul-rings-3
+    slice-write-rings-3
+    add-rings-3
+    mul-rings-4
+    slice-write-rings-4
+    add-rings-4
+    mul-rings-5
+    slice-write-rings-5
+    add-rings-5
+    mul-rings-6
+    slice-write-rings-6
+    write-unused-requires
+    same-length
+    returns)

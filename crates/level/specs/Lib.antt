@@ -1,0 +1,2 @@
+-- One level of Loop refinement, over the lent tables.
+pub mod Level
