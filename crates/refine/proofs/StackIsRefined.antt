@@ -1,0 +1,118 @@
+-- An accepted refinement leaves a true stack: vertex x of level k, at stack vertex `levelStart k + x`, has the valence, the ring and the point that
+-- refinement defines for it; so each level, read from where it begins, is the abstract level, sound, with V, E and F of document 01, "Refinement, one level".
+-- A written row has 65,535 in its unused places. Assumes nothing.
+use mathlib.Core.Path.{_≡_, sym, ap, subst, _∙_}
+use mathlib.Core.List.{List}
+use Prim.Native.Nat.{ℕ, suc, _+_, _*_, _≤_, _<_}
+use native.Mathlib.Omega.{arith}
+use lib.IntN.{ℤ}
+use lib.ListN.{length, getD, take, drop}
+use Rattle.mesh.specs.Search.{sum}
+use Rattle.mesh.specs.Mesh.{Mesh, Sound, edges, faces, characteristic}
+use Rattle.mesh.specs.Refine.{level}
+use Rattle.mesh.specs.Mask.{refined}
+use Rattle.mesh.specs.Loop.{loop}
+use Rattle.mesh.proofs.RefinementKeepsSoundness as K
+use Rattle.rings.specs.Table.{ringOf, rows, padded, coordinateAt}
+use Rattle.rings.specs.declared.Verdict.the-variants.{Accepted}
+use Rattle.refine.specs.Stack.{levelStart}
+use Rattle.refine.specs.Accepts.{AcceptsStack}
+use Rattle.refine.specs.Refinement.{stackedValences, stackedRings, stackedPositions, stackVerdict, refineValences, refineRings, refinePositions}
+use Rattle.refine.proofs.AcceptedStack.{stack-only}
+use Rattle.refine.proofs.RefineAnswers.{accepted-valences, accepted-rings, accepted-positions}
+use Rattle.refine.proofs.StackLevels as T
+
+module _ (n levels : ℕ) (vs rs : List ℕ) (ps : List ℤ) (accepted : Accepted ≡ stackVerdict n levels vs rs ps) where
+  -- the control mesh, where level k begins, and the tables after the call
+  abbrev M : Mesh
+  M = rows n vs rs
+
+  abbrev start : ℕ → ℕ
+  start k = levelStart n (edges M) k
+
+  abbrev after-valences : List ℕ
+  after-valences = refineValences n levels vs rs ps
+
+  abbrev after-rings : List ℕ
+  after-rings = refineRings n levels vs rs ps
+
+  abbrev after-positions : List ℤ
+  after-positions = refinePositions n levels vs rs ps
+
+  a : AcceptsStack n levels vs rs ps
+  a = stack-only n levels vs rs ps (sym accepted)
+
+  S : Sound M
+  S = a .control .sound
+
+  begins : (k : ℕ) → start k ≡ sum (λ j. level M j .count) k
+  begins k = T.start-is n levels vs rs ps a k
+
+  valences-are : after-valences ≡ stackedValences n levels vs rs
+  valences-are = sym (accepted-valences n levels vs rs ps accepted)
+
+  rings-are : after-rings ≡ stackedRings n levels vs rs
+  rings-are = sym (accepted-rings n levels vs rs ps accepted)
+
+  positions-are : after-positions ≡ stackedPositions n levels vs rs ps
+  positions-are = sym (accepted-positions n levels vs rs ps accepted)
+
+  -- ---- vertex x of level k
+
+  module _ (k x : ℕ) (l : k ≤ levels) (h : x < level M k .count) where
+    pub valence-is-refined : getD after-valences (start k + x) 0 ≡ length (level M k .ring x)
+    valence-is-refined = rw (valences-are, begins k) (T.valence-at n levels vs rs ps a levels (omega arith) k x l h)
+
+    pub ring-is-refined : ringOf after-valences after-rings (start k + x) ≡ level M k .ring x
+    ring-is-refined = rw (valences-are, rings-are, begins k) (T.ring-at n levels vs rs ps a levels (omega arith) k x l h)
+
+    pub point-is-refined : (axis : ℕ) → axis < 3 → coordinateAt after-positions axis (start k + x) ≡ refined (loop M) (coordinateAt ps axis) k x
+    point-is-refined axis b = rw (positions-are, begins k) (T.coordinate-at n levels vs rs ps a levels (omega arith) axis b k x l h)
+
+  pub unused-places-are-null : (k x : ℕ) → k < levels → x < level M (suc k) .count → take 32 (drop ((start (suc k) + x) * 32) after-rings) ≡ padded (level M (suc k) .ring x)
+  unused-places-are-null k x l h = rw (rings-are, begins (suc k)) (T.written-row n levels vs rs ps a levels (omega arith) k x l h)
+
+  -- ---- level k, read from where it begins
+
+  abbrev at-level : ℕ → Mesh
+  at-level k = rows (level M k .count) (drop (start k) after-valences) (drop (start k * 32) after-rings)
+
+  pub level-is-refined : (k : ℕ) → k ≤ levels → at-level k ≡ level M k
+  level-is-refined k l = rw (valences-are, rings-are, begins k) (T.level-part n levels vs rs ps a levels (omega arith) k l)
+
+  pub every-level-is-sound : (k : ℕ) → k ≤ levels → Sound (at-level k)
+  every-level-is-sound k l = subst Sound (sym (level-is-refined k l)) (K.every-level-is-sound M S k)
+
+  -- V + E, 4E, 4F a level, and V - E + F stays
+  module _ (k : ℕ) (l : k < levels) where
+    before : at-level k ≡ level M k
+    before = level-is-refined k (omega arith)
+
+    next : at-level (suc k) ≡ level M (suc k)
+    next = level-is-refined (suc k) l
+
+    pub vertices-and-edges : at-level (suc k) .count ≡ at-level k .count + edges (at-level k)
+    vertices-and-edges = rw (next, before) (K.next-level-count M S k)
+
+    pub four-times-the-edges : edges (at-level (suc k)) ≡ 4 * edges (at-level k)
+    unfolding level
+    four-times-the-edges = rw (next, before) (K.refined-edges (level M k) (K.every-level-is-sound M S k))
+
+    pub four-times-the-faces : faces (at-level (suc k)) ≡ 4 * faces (at-level k)
+    unfolding level
+    four-times-the-faces = rw (next, before) (K.refined-faces (level M k) (K.every-level-is-sound M S k))
+
+    -- an old vertex keeps its valence, a new one has 6
+    pub old-valence-stays : (x : ℕ) → x < level M k .count → getD after-valences (start (suc k) + x) 0 ≡ getD after-valences (start k + x) 0
+    unfolding level
+    old-valence-stays x h =
+        valence-is-refined (suc k) x l (omega (arith, K.next-level-count M S k))
+        ∙ K.old-valence-stays (level M k) (K.every-level-is-sound M S k) x h
+        ∙ sym (valence-is-refined k x (omega arith) h)
+
+    pub new-valence-is-six : (x : ℕ) → level M k .count ≤ x → x < level M (suc k) .count → getD after-valences (start (suc k) + x) 0 ≡ 6
+    unfolding level
+    new-valence-is-six x h g = valence-is-refined (suc k) x l g ∙ K.new-valence-is-six (level M k) (K.every-level-is-sound M S k) x h g
+
+  pub characteristic-stays : (k : ℕ) → k ≤ levels → characteristic (at-level k) ≡ characteristic M
+  characteristic-stays k l = ap characteristic (level-is-refined k l) ∙ K.level-characteristic M S k

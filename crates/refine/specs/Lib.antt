@@ -1,0 +1,4 @@
+-- The stack, and the whole refinement.
+pub mod Stack
+pub mod Accepts
+pub mod Refinement
