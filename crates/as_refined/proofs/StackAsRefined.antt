@@ -1,0 +1,190 @@
+-- A stack in which no vertex is strange is exactly the one that refinement gives: each level, read from where it begins, is the abstract level, with valences of at
+-- most 32 and coordinates in range. Assumes nothing.
+use Prim.Native.Nat.{ℕ, zero, suc, _+_, _-_, _*_, _≤_, _<_}
+use mathlib.Core.Path.{_≡_, sym, ap, subst, _∙_}
+use mathlib.Core.Bool.{false, cond}
+use mathlib.Core.List.{List}
+use native.Mathlib.Omega.{arith}
+use lib.Dec.{ltb}
+use lib.IntN.{ℤ}
+use lib.ListN.{length, getD, drop, length-drop}
+use lib.Seq.{getD-drop}
+use borrow.Author.Tests.{lt-ltb}
+use Rattle.mesh.specs.Search.{first}
+use Rattle.mesh.specs.Mesh.{Mesh, mesh, edges}
+use Rattle.mesh.specs.Refine.{lowEnd, highEnd, oldRing, newRing, refine, level}
+use Rattle.mesh.proofs.First.{Clear, or-false, or-both}
+use Rattle.mesh.proofs.Levels.{level-sound}
+use Rattle.mesh.proofs.Refined.{mesh-same}
+use Rattle.units.specs.Coordinate.{InRange, beyond}
+use Rattle.rings.specs.Table.{ringOf, rows, coordinateAt}
+use Rattle.rings.specs.Check.{beyondAt}
+use Rattle.rings.proofs.Rows.{rows-ring, row-length, room-row}
+use Rattle.rings.proofs.Checks.{within, not-beyond}
+use Rattle.level.specs.Level.{Ready, Near}
+use Rattle.refine.specs.Stack.{levelEdges, levelCount, levelStart, stackCount}
+use Rattle.refine.specs.Accepts.{AcceptsStack}
+use Rattle.refine.proofs.Sizes.{level-count, level-edges, start-none, start-suc}
+use Rattle.refine.proofs.StackLevels.{ring-part, point-part}
+use Rattle.refine.proofs.StackVertices.{starts-climb, vertex-in}
+use Rattle.as_refined.specs.Expected.{whole, strange}
+use Rattle.as_refined.proofs.Strange.{as-wanted, not-other}
+use Rattle.as_refined.proofs.StackRows.{strange-is, clear-stack}
+use Rattle.as_refined.proofs.NextNumbers.{clear-to, clear-all}
+
+-- level k: how many vertices it has, where it begins, and the parts of the tables that begin there
+module _ (n : ℕ) (vs rs : List ℕ) (k : ℕ) where
+  abbrev pub size : ℕ
+  size = levelCount n (edges (rows n vs rs)) k
+
+  abbrev pub begin : ℕ
+  begin = levelStart n (edges (rows n vs rs)) k
+
+  abbrev pub valencesFrom : List ℕ
+  valencesFrom = drop begin vs
+
+  abbrev pub ringsFrom : List ℕ
+  ringsFrom = drop (begin * 32) rs
+
+  abbrev pub positionsFrom : List ℤ → List ℤ
+  positionsFrom ps = drop (begin * 3) ps
+
+-- level k of the stack is what refinement gives, with coordinates in range
+pub record AsRefined (n : ℕ) (vs rs : List ℕ) (ps : List ℤ) (k : ℕ) : Type 0 where
+  pub mesh : rows (size n vs rs k) (valencesFrom n vs rs k) (ringsFrom n vs rs k) ≡ level (rows n vs rs) k
+  pub most : (x : ℕ) → x < size n vs rs k → getD (valencesFrom n vs rs k) x 0 ≤ 32
+  pub near : Near (size n vs rs k) (positionsFrom n vs rs k ps)
+
+-- a point that is not beyond the range
+near-of : (ps : List ℤ) (v : ℕ) → beyondAt ps v ≡ false → (axis : ℕ) → axis < 3 → InRange (coordinateAt ps axis v)
+unfolding beyondAt
+near-of ps v e axis h =
+    let a = or-false (beyond (coordinateAt ps 0 v)) _ e in
+    let b = or-false (beyond (coordinateAt ps 1 v)) _ (a .1) in
+    go axis h (within (coordinateAt ps 0 v) (a .0)) (within (coordinateAt ps 1 v) (b .0)) (within (coordinateAt ps 2 v) (b .1))
+  where
+    go : (axis : ℕ) → axis < 3 → InRange (coordinateAt ps 0 v) → InRange (coordinateAt ps 1 v) → InRange (coordinateAt ps 2 v) → InRange (coordinateAt ps axis v)
+    go zero h x y z = x
+    go (suc zero) h x y z = y
+    go (suc (suc zero)) h x y z = z
+    go (suc (suc (suc k))) h x y z = absurd (omega arith)
+
+pub of-near : (ps : List ℤ) (v : ℕ) → ((axis : ℕ) → axis < 3 → InRange (coordinateAt ps axis v)) → beyondAt ps v ≡ false
+unfolding beyondAt
+of-near ps v h = or-both _ _ (not-beyond _ (h 0 (omega arith))) (or-both _ _ (not-beyond _ (h 1 (omega arith))) (not-beyond _ (h 2 (omega arith))))
+
+-- a refined mesh is the mesh of its rings
+refined-again : (M : Mesh) → mesh (refine M .count) (refine M .ring) ≡ refine M
+unfolding refine
+refined-again M =
+    let rings : ℕ → List ℕ = λ x. cond (ltb x (M .count)) (oldRing M x) (newRing M (lowEnd M x) (highEnd M x)) in
+    mesh-same (M .count + edges M) (mesh (M .count + edges M) rings .ring) rings (λ v h. rw (lt-ltb v (M .count + edges M) h))
+
+module _ (n levels : ℕ) (vs rs : List ℕ) (ps : List ℤ) (a : AcceptsStack n levels vs rs ps) where
+  abbrev M : Mesh
+  M = rows n vs rs
+
+  -- ---- a level above 0
+
+  module _ (k : ℕ) (l : k < levels) (all : Clear (strange n levels vs rs ps) (begin n vs rs (suc (suc k)))) where
+    module _ (x : ℕ) (h : x < size n vs rs (suc k)) where
+      vertex-as-wanted : (getD vs (begin n vs rs (suc k) + x) 0 ≡ length (level M (suc k) .ring x)) × ((ringOf vs rs (begin n vs rs (suc k) + x) ≡ level M (suc k) .ring x) × (beyondAt ps (begin n vs rs (suc k) + x) ≡ false))
+      vertex-as-wanted =
+          let b : begin n vs rs (suc k) + x < begin n vs rs (suc (suc k)) = omega (arith, start-suc n (edges M) (suc k)) in
+          as-wanted (level M (suc k) .ring x) vs rs ps (begin n vs rs (suc k) + x) (sym (strange-is n levels vs rs ps k x l h) ∙ all .below (begin n vs rs (suc k) + x) b)
+
+    count-is : level M (suc k) .count ≡ size n vs rs (suc k)
+    unfolding rows
+    count-is = level-count M (a .control .sound) (suc k)
+
+    points-room : begin n vs rs (suc (suc k)) * 3 ≤ length ps
+    unfolding stackCount
+    points-room = let c = starts-climb n (edges M) (suc (suc k)) (suc levels) (omega arith) in let p = a .points in omega arith
+
+    upper : AsRefined n vs rs ps (suc k)
+    unfolding rows level
+    upper = record {
+      mesh =
+          mesh-same (size n vs rs (suc k)) (ringOf (drop (begin n vs rs (suc k)) vs) (drop (begin n vs rs (suc k) * 32) rs)) (level M (suc k) .ring)
+          (λ x h. ring-part vs rs (begin n vs rs (suc k)) x ∙ vertex-as-wanted x h .1 .0)
+          ∙ ap (λ (m : ℕ). mesh m (level M (suc k) .ring)) (sym count-is)
+          ∙ refined-again (level M k);
+      most = λ x h.
+          subst (λ (m : ℕ). m ≤ 32) (sym (getD-drop (begin n vs rs (suc k)) vs x 0 ∙ vertex-as-wanted x h .0)) (level-sound M (a .control .sound) (suc k) .proper x (rw count-is h) .short);
+      near = record {
+        points = let p = points-room in rw length-drop (omega (arith, start-suc n (edges M) (suc k)));
+        near = λ x h axis g. rw (point-part ps (begin n vs rs (suc k)) axis x) (near-of ps (begin n vs rs (suc k) + x) (vertex-as-wanted x h .1 .1) axis g);
+      };
+    }
+
+  -- ---- level 0, which the check accepted
+
+  control : AsRefined n vs rs ps 0
+  unfolding level
+  control = record {
+    mesh = rw (start-none n (edges M));
+    most = rw (start-none n (edges M)) (a .control .most);
+    near = rw (start-none n (edges M)) (record { points = a .control .points; near = a .control .near });
+  }
+
+  -- ---- the levels up to k, where nothing up to there is strange
+
+  pub level-as-refined : (k : ℕ) → k ≤ levels → Clear (strange n levels vs rs ps) (begin n vs rs (suc k)) → AsRefined n vs rs ps k
+  level-as-refined zero l all = control
+  level-as-refined (suc k) l all = upper k l all
+
+  -- ---- the whole stack
+
+  pub stack-as-refined : whole n levels vs rs ps ≡ first (strange n levels vs rs ps) (whole n levels vs rs ps) → (k : ℕ) → k ≤ levels → AsRefined n vs rs ps k
+  unfolding whole stackCount
+  stack-as-refined none k l =
+      let all = clear-to (strange n levels vs rs ps) (begin n vs rs (suc levels)) none (omega arith) in
+      level-as-refined k l (record { below = λ j h. all .below j (omega (arith, starts-climb n (edges M) (suc k) (suc levels) (omega arith))) })
+
+  -- and back: where every level is the refined one and in range, no vertex is strange
+  module _ (all : (k : ℕ) → k ≤ levels → AsRefined n vs rs ps k) where
+    module _ (k x : ℕ) (l : k < levels) (h : x < size n vs rs (suc k)) where
+      ring-there : ringOf vs rs (begin n vs rs (suc k) + x) ≡ level M (suc k) .ring x
+      ring-there =
+          sym (ring-part vs rs (begin n vs rs (suc k)) x)
+          ∙ sym (rows-ring (size n vs rs (suc k)) (valencesFrom n vs rs (suc k)) (ringsFrom n vs rs (suc k)) x h)
+          ∙ ap (λ (N : Mesh). N .ring x) (all (suc k) l .mesh)
+
+      valence-there : getD vs (begin n vs rs (suc k) + x) 0 ≡ length (level M (suc k) .ring x)
+      valence-there =
+          let m : getD vs (begin n vs rs (suc k) + x) 0 ≤ 32 = rw (getD-drop (begin n vs rs (suc k)) vs x 0) at (all (suc k) l .most x h) in
+          sym (row-length vs rs (begin n vs rs (suc k) + x) (room-row (a .room) (vertex-in n (edges M) levels (suc k) x l h) m)) ∙ ap length ring-there
+
+      point-there : beyondAt ps (begin n vs rs (suc k) + x) ≡ false
+      point-there = of-near ps (begin n vs rs (suc k) + x) (λ axis b. rw (point-part ps (begin n vs rs (suc k)) axis x) at (all (suc k) l .near .near x h axis b))
+
+      vertex-not-strange : strange n levels vs rs ps (begin n vs rs (suc k) + x) ≡ false
+      vertex-not-strange =
+          strange-is n levels vs rs ps k x l h ∙ not-other (level M (suc k) .ring x) vs rs ps (begin n vs rs (suc k) + x) valence-there ring-there point-there
+
+    pub nothing-is-strange : whole n levels vs rs ps ≡ first (strange n levels vs rs ps) (whole n levels vs rs ps)
+    unfolding whole
+    nothing-is-strange = clear-all (clear-stack n levels vs rs ps vertex-not-strange)
+
+  -- ---- a level that stands as refinement gives it, and the next one behind it: what a sweep from one to the other asks
+
+  module _ (k : ℕ) (l : k < levels) (t : AsRefined n vs rs ps k) where
+    pub part-edges : edges (rows (size n vs rs k) (valencesFrom n vs rs k) (ringsFrom n vs rs k)) ≡ levelEdges (edges M) k
+    unfolding rows
+    part-edges = ap edges (t .mesh) ∙ level-edges M (a .control .sound) k
+
+    -- both levels have room
+    both : begin n vs rs k + (size n vs rs k + size n vs rs (suc k)) ≤ stackCount n (edges M) levels
+    unfolding stackCount
+    both = omega (arith, start-suc n (edges M) k, start-suc n (edges M) (suc k), starts-climb n (edges M) (suc (suc k)) (suc levels) (omega arith))
+
+    pub part-ready : Ready (size n vs rs k) (valencesFrom n vs rs k) (ringsFrom n vs rs k)
+    part-ready = record {
+      room = rw part-edges (record { valences = let b = both in let r = a .room .valences in rw length-drop (omega arith); rings = let b = both in let r = a .room .rings in rw length-drop (omega arith) });
+      most = t .most;
+      sound = rw (t .mesh) (level-sound M (a .control .sound) k);
+      fits = rw part-edges (a .fits (suc k) l);
+    }
+
+    pub part-points : (size n vs rs k + (size n vs rs k + edges (rows (size n vs rs k) (valencesFrom n vs rs k) (ringsFrom n vs rs k)))) * 3 ≤ length (positionsFrom n vs rs k ps)
+    part-points = rw (part-edges, length-drop) (let b = both in let r = a .points in omega arith)

@@ -1,0 +1,2 @@
+-- Reason 11.
+pub mod Expected
