@@ -1,0 +1,115 @@
+-- For a caller of the refresh: how a stack is ready, and the outcome said of any set that names the same control vertices and of what the upper levels held before
+-- the control points were moved. Assumes nothing.
+use Prim.Native.Nat.{ℕ, zero, suc, _+_, _*_, _≤_, _<_}
+use mathlib.Core.Path.{_≡_, refl, ap, ap₂, _∙_}
+use mathlib.Core.Bool.{Bool, cond}
+use mathlib.Core.List.{List}
+use native.Mathlib.Omega.{arith}
+use lib.Dec.{ltb}
+use lib.IntN.{ℤ}
+use lib.ListN.{length, getD, drop}
+use borrow.Author.Tests.{lt-ltb}
+use Rattle.mesh.specs.Limits.{mostValence}
+use Rattle.mesh.specs.Mesh.{Mesh, mesh, edges}
+use Rattle.mesh.specs.Refine.{lowEnd, highEnd, oldRing, newRing, refine, level}
+use Rattle.mesh.specs.Mask.{Steps, Grounded, touched, refreshed}
+use Rattle.mesh.specs.Loop.{loop}
+use Rattle.mesh.proofs.Levels.{loop-grounded}
+use Rattle.mesh.proofs.Refined.{mesh-same}
+use Rattle.mesh.proofs.Refresh.{byMask-same}
+use Rattle.mesh.proofs.TouchedPoints.{touched-same}
+use Rattle.units.specs.Coordinate.{InRange}
+use Rattle.rings.specs.Table.{put, gather, ringOf, rows, coordinateAt, pointRows}
+use Rattle.level.proofs.Written.{gather-same}
+use Rattle.refine.specs.Stack.{levelStart, stackCount, levelOf, numberIn}
+use Rattle.refine.specs.Accepts.{AcceptsStack}
+use Rattle.refine.proofs.StackLevels.{ring-part}
+use Rattle.refresh.specs.Stack.{StackReady, TouchedMarked, refreshedAt, refreshedPositions}
+use Rattle.refresh.proofs.Renewed.{three}
+use Rattle.refresh.proofs.TouchedMarks.{vertex-of, mark-of}
+
+-- ---- a stack that is ready
+
+rows-same : (n : ℕ) (vs rs : List ℕ) (rings : ℕ → List ℕ) → ((x : ℕ) → x < n → ringOf vs rs x ≡ rings x) → rows n vs rs ≡ mesh n rings
+unfolding rows
+rows-same n vs rs rings h = mesh-same n (ringOf vs rs) rings h
+
+mesh-again : (n : ℕ) (rings : ℕ → List ℕ) → mesh n (mesh n rings .ring) ≡ mesh n rings
+mesh-again n rings = mesh-same n (mesh n rings .ring) rings (λ v h. rw (lt-ltb v n h))
+
+level-mesh : (n : ℕ) (vs rs : List ℕ) (k : ℕ) → mesh (level (rows n vs rs) k .count) (level (rows n vs rs) k .ring) ≡ level (rows n vs rs) k
+unfolding level rows refine
+level-mesh n vs rs zero = mesh-again n (ringOf vs rs)
+level-mesh n vs rs (suc k) =
+    let M : Mesh = level (rows n vs rs) k in
+    mesh-again (M .count + edges M) (λ x. cond (ltb x (M .count)) (oldRing M x) (newRing M (lowEnd M x) (highEnd M x)))
+
+module _ {n levels : ℕ} {vs rs : List ℕ} {ps : List ℤ} (a : AcceptsStack n levels vs rs ps) where
+  abbrev M : Mesh
+  M = rows n vs rs
+
+  abbrev size : ℕ → ℕ
+  size k = level M k .count
+
+  -- an accepted stack with other positions, of which the control points are in range, is accepted
+  pub accepted-moved : (ps′ : List ℤ) → length ps′ ≡ length ps → ((v : ℕ) → v < n → (axis : ℕ) → axis < 3 → InRange (coordinateAt ps′ axis v)) → AcceptsStack n levels vs rs ps′
+  accepted-moved ps′ e near =
+      let c = a .control in
+      record {
+        low = a .low;
+        high = a .high;
+        control = record { low = c .low; high = c .high; room = c .room; points = rw e (c .points); most = c .most; sound = c .sound; near = near };
+        fits = a .fits;
+        room = a .room;
+        points = rw e (a .points);
+      }
+
+  -- it is ready where each row is the one that refinement gives
+  pub ready-by-rows : (e : ℕ) → e ≡ edges M
+      → ((j : ℕ) → j < stackCount n (edges M) levels → getD vs j 0 ≤ mostValence)
+      → ((k x : ℕ) → k ≤ levels → x < size k → ringOf vs rs (levelStart n (edges M) k + x) ≡ level M k .ring x)
+      → ((j : ℕ) → j < stackCount n (edges M) levels → (axis : ℕ) → axis < 3 → InRange (coordinateAt ps axis j)) → StackReady n e levels vs rs ps
+  ready-by-rows e c most rings near = record { accepted = a; counted = c; most = most; refined = part; near = near }
+    where
+      part : (k : ℕ) → k ≤ levels → rows (size k) (drop (levelStart n (edges M) k) vs) (drop (levelStart n (edges M) k * 32) rs) ≡ level M k
+      part k l = rows-same (size k) _ _ (level M k .ring) (λ x h. ring-part vs rs (levelStart n (edges M) k) x ∙ rings k x l h) ∙ level-mesh n vs rs k
+
+-- ---- what a refresh depends on: the named control vertices, the control points, and what is held above level 0
+
+module _ (S : Steps) (grounded : Grounded S) (named named′ : ℕ → Bool) (same : (v : ℕ) → v < S .size 0 → named v ≡ named′ v)
+    (held held′ : ℕ → ℕ → ℤ) (control : ℕ → ℤ) where
+  refreshed-again : (k : ℕ) → ((j x : ℕ) → j < k → x < S .size (suc j) → held (suc j) x ≡ held′ (suc j) x)
+      → (x : ℕ) → x < S .size k → refreshed S named held control k x ≡ refreshed S named′ held′ control k x
+  unfolding refreshed
+  refreshed-again zero was x h = refl
+  refreshed-again (suc k) was x h =
+      rw (touched-same S grounded named named′ same (suc k) x h)
+      (ap₂ (λ (a b : ℤ). cond (touched S named′ (suc k) x) a b)
+      (byMask-same S grounded k x h (refreshed S named held control k) (refreshed S named′ held′ control k) (refreshed-again k (λ j y l. was j y (omega arith))))
+      (was k x (omega arith) h))
+
+module _ {n levels : ℕ} {vs rs : List ℕ} {ps : List ℤ} (a : AcceptsStack n levels vs rs ps) {before : ℕ → Bool} (named : ℕ → Bool) (same : (v : ℕ) → v < n → before v ≡ named v) where
+  -- the positions, with what was held above level 0 given
+  pub positions-by : (held : ℕ → ℕ → ℕ → ℤ)
+      → ((axis k x : ℕ) → k < levels → x < level (rows n vs rs) (suc k) .count → coordinateAt ps axis (levelStart n (edges (rows n vs rs)) (suc k) + x) ≡ held axis (suc k) x)
+      → refreshedPositions n vs rs before ps levels
+      ≡ put ps (n * 3)
+      (gather (λ k. pointRows (λ axis. refreshed (loop (rows n vs rs)) named (held axis) (coordinateAt ps axis) (suc k)) (level (rows n vs rs) (suc k) .count)) levels)
+  unfolding refreshedPositions refreshedAt pointRows loop level rows
+  positions-by held was =
+      ap (put ps (n * 3)) (gather-same _ _ levels (λ k l. gather-same _ _ (level (rows n vs rs) (suc k) .count) (λ x h.
+      three (again 0 k l x h) (again 1 k l x h) (again 2 k l x h))))
+    where
+      again : (axis k : ℕ) → k < levels → (x : ℕ) → x < level (rows n vs rs) (suc k) .count
+          → refreshed (loop (rows n vs rs)) before (λ j y. coordinateAt ps axis (levelStart n (edges (rows n vs rs)) j + y)) (coordinateAt ps axis) (suc k) x
+          ≡ refreshed (loop (rows n vs rs)) named (held axis) (coordinateAt ps axis) (suc k) x
+      again axis k l x h =
+          refreshed-again (loop (rows n vs rs)) (loop-grounded (rows n vs rs) (a .control .sound)) before named same
+          (λ j y. coordinateAt ps axis (levelStart n (edges (rows n vs rs)) j + y)) (held axis) (coordinateAt ps axis) (suc k)
+          (λ j y m g. was axis j y (omega arith) g) x h
+
+  -- the mark of stack vertex j
+  pub mark-by : {after : ℕ → Bool} → TouchedMarked n levels vs rs before after → (j : ℕ) → j < stackCount n (edges (rows n vs rs)) levels
+      → after j ≡ touched (loop (rows n vs rs)) named (levelOf n (edges (rows n vs rs)) levels j) (numberIn n (edges (rows n vs rs)) levels j)
+  unfolding loop level rows
+  mark-by t j h = mark-of a t j h ∙ touched-same (loop (rows n vs rs)) (loop-grounded (rows n vs rs) (a .control .sound)) before named same _ _ (vertex-of a j h .1 .0)
