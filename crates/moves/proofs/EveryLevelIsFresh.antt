@@ -1,0 +1,143 @@
+-- Demand 3: level 4 means level 4.
+-- Take tables that an accepted refinement has just filled. Then take any sequence of lists of moves, accepted or refused, each given with that refinement's V and L.
+-- After each, every coordinate of every level is what a fresh refinement of the control points as they now are gives.
+-- And an accepted list leaves every point as it was that it does not name and that no mask leads from a named one to.
+-- Assumes nothing.
+use Prim.Native.Nat.{ℕ, zero, suc, _+_, _*_, _≤_, _<_}
+use mathlib.Core.Path.{_≡_, refl, sym, ap, ap₂, subst, _∙_}
+use mathlib.Core.Bool.{Bool, true, false}
+use mathlib.Core.List.{List, [], _∷_}
+use native.Mathlib.Nat.{zero-add}
+use native.Mathlib.Omega.{arith}
+use lib.IntN.{ℤ, pos}
+use lib.ListN.{length, getD, drop}
+use Rattle.mesh.specs.Search.{sum}
+use Rattle.mesh.specs.Mesh.{Mesh, edges}
+use Rattle.mesh.specs.Refine.{level}
+use Rattle.mesh.specs.Mask.{touched, refined, refreshed}
+use Rattle.mesh.specs.Loop.{loop}
+use Rattle.mesh.proofs.Levels.{loop-grounded}
+use Rattle.mesh.proofs.Refresh.{refined-same, refreshed-untouched}
+use Rattle.mesh.proofs.RefreshIsRefinement.{refresh-is-refinement}
+use Rattle.rings.specs.Table.{rows, coordinateAt}
+use Rattle.rings.specs.Verdict.{after}
+use Rattle.rings.specs.declared.Verdict.{Verdict}
+use Rattle.rings.specs.declared.Verdict.the-variants.{Accepted, Refused}
+use Rattle.refine.specs.Stack.{levelStart}
+use Rattle.refine.specs.Accepts.{AcceptsStack}
+use Rattle.refine.specs.Refinement.{stackedValences, stackedRings, stackedPositions, stackVerdict, refineValences, refineRings, refinePositions}
+use Rattle.refine.proofs.AcceptedStack.{stack-only}
+use Rattle.refine.proofs.StackLevels.{start-is, level-part, coordinate-at}
+use Rattle.moves.specs.Moves.{named}
+use Rattle.moves.specs.Apply.{applyVerdict, movedControl, applyPositions}
+use Rattle.moves.specs.declared.Move.{Move}
+use Rattle.moves.proofs.AfterList.{heldAt, refused-keeps, stack-accepted, control-changes, after-list, control-after}
+
+-- every coordinate of levels 0 to L is what refining the control points gives
+pub record Fresh (n levels : ℕ) (vs rs : List ℕ) (ps : List ℤ) : Type 0 where
+  pub fresh : (axis : ℕ) → axis < 3 → (k x : ℕ) → k ≤ levels → x < level (rows n vs rs) k .count
+      → coordinateAt ps axis (levelStart n (edges (rows n vs rs)) k + x) ≡ refined (loop (rows n vs rs)) (coordinateAt ps axis) k x
+
+-- one call with a list: the map it is lent, and the moves
+pub record Call : Type 0 where
+  pub map : List ℕ
+  pub moves : List Move
+
+-- the positions after several calls
+abbrev pub afterCalls : ℕ → ℕ → List ℕ → List ℕ → List Call → List ℤ → List ℤ
+afterCalls n levels vs rs [] ps = ps
+afterCalls n levels vs rs (c ∷ cs) ps = afterCalls n levels vs rs cs (applyPositions n levels vs rs ps (c .map) (c .moves))
+
+-- ---- the steps
+
+module _ (n levels : ℕ) (vs rs : List ℕ) (ps : List ℤ) where
+  wrote : stackVerdict n levels vs rs ps ≡ Accepted
+      → (refineValences n levels vs rs ps ≡ stackedValences n levels vs rs) × (refineRings n levels vs rs ps ≡ stackedRings n levels vs rs)
+      × (refinePositions n levels vs rs ps ≡ stackedPositions n levels vs rs ps)
+  unfolding refineValences refineRings refinePositions after
+  wrote e = (rw e, rw e, rw e)
+
+  module _ (a : AcceptsStack n levels vs rs ps) where
+    -- the control mesh stays
+    control-stays : rows n (stackedValences n levels vs rs) (stackedRings n levels vs rs) ≡ rows n vs rs
+    unfolding level rows
+    control-stays = level-part n levels vs rs ps a levels (omega arith) 0 (omega arith)
+
+    point-stays : (axis : ℕ) → axis < 3 → (v : ℕ) → v < loop (rows n vs rs) .size 0 → coordinateAt (stackedPositions n levels vs rs ps) axis v ≡ coordinateAt ps axis v
+    unfolding refined loop level
+    point-stays axis b v h =
+        ap (λ (j : ℕ). coordinateAt (stackedPositions n levels vs rs ps) axis j) (sym (zero-add v)) ∙ coordinate-at n levels vs rs ps a levels (omega arith) axis b 0 v (omega arith) h
+
+    stacked-is-fresh : Fresh n levels (stackedValences n levels vs rs) (stackedRings n levels vs rs) (stackedPositions n levels vs rs ps)
+    unfolding loop
+    stacked-is-fresh = record {
+      fresh = λ axis b k x h g.
+          subst
+          (λ (N : Mesh). (x : ℕ) → x < level N k .count → coordinateAt (stackedPositions n levels vs rs ps) axis (levelStart n (edges N) k + x) ≡ refined (loop N) (coordinateAt (stackedPositions n levels vs rs ps) axis) k x)
+          (sym control-stays)
+          (λ x g.
+          ap (λ (s : ℕ). coordinateAt (stackedPositions n levels vs rs ps) axis (s + x)) (start-is n levels vs rs ps a k)
+          ∙ coordinate-at n levels vs rs ps a levels (omega arith) axis b k x h g
+          ∙ refined-same (loop (rows n vs rs)) (loop-grounded (rows n vs rs) (a .control .sound)) (coordinateAt ps axis) (coordinateAt (stackedPositions n levels vs rs ps) axis)
+          (λ v l. sym (point-stays axis b v l)) k x g)
+          x
+          g;
+    }
+
+  -- an accepted refinement leaves fresh tables
+  pub refinement-is-fresh : stackVerdict n levels vs rs ps ≡ Accepted
+      → Fresh n levels (refineValences n levels vs rs ps) (refineRings n levels vs rs ps) (refinePositions n levels vs rs ps)
+  refinement-is-fresh e = let w = wrote e in rw (w .0, w .1, w .2) (stacked-is-fresh (stack-only n levels vs rs ps e))
+
+  module _ (map : List ℕ) (ms : List Move) where
+    accepted-keeps-fresh : Fresh n levels vs rs ps → applyVerdict n levels vs rs ps map ms ≡ Accepted → Fresh n levels vs rs (applyPositions n levels vs rs ps map ms)
+    unfolding heldAt loop
+    accepted-keeps-fresh f e =
+        let M : Mesh = rows n vs rs in
+        let grounded = loop-grounded M (stack-accepted n levels vs rs ps map ms e .control .sound) in
+        let control : List ℤ = movedControl n levels vs rs ps map ms in
+        record {
+          fresh = λ axis b k x h g.
+              after-list n levels vs rs ps map ms e axis b k x h g
+              ∙ refresh-is-refinement (loop M) grounded levels (named ms) (coordinateAt ps axis) (coordinateAt control axis) (heldAt n vs rs ps axis)
+              (λ j y i l. f .fresh axis b j y i l)
+              (λ v l q. control-changes n levels vs rs ps map ms e .same v axis b q)
+              k x h g
+              ∙ refined-same (loop M) grounded (coordinateAt control axis) (coordinateAt (applyPositions n levels vs rs ps map ms) axis) (λ v l. sym (control-after n levels vs rs ps map ms e axis b v l)) k x g;
+        }
+
+    -- a list keeps fresh tables fresh
+    pub list-keeps-fresh : Fresh n levels vs rs ps → Fresh n levels vs rs (applyPositions n levels vs rs ps map ms)
+    list-keeps-fresh f = go (applyVerdict n levels vs rs ps map ms) refl
+      where
+        go : (v : Verdict) → applyVerdict n levels vs rs ps map ms ≡ v → Fresh n levels vs rs (applyPositions n levels vs rs ps map ms)
+        go (Refused r) e = rw (refused-keeps n levels vs rs ps map ms r e) f
+        go Accepted e = accepted-keeps-fresh f e
+
+-- ---- the theorem
+
+-- lists of moves keep fresh tables fresh
+pub calls-keep-fresh : (n levels : ℕ) (vs rs : List ℕ) (cs : List Call) (ps : List ℤ) → Fresh n levels vs rs ps → Fresh n levels vs rs (afterCalls n levels vs rs cs ps)
+calls-keep-fresh n levels vs rs [] ps f = f
+calls-keep-fresh n levels vs rs (c ∷ cs) ps f =
+    calls-keep-fresh n levels vs rs cs (applyPositions n levels vs rs ps (c .map) (c .moves)) (list-keeps-fresh n levels vs rs ps (c .map) (c .moves) f)
+
+-- after an accepted refinement and any lists of moves every level is what a fresh refinement gives
+pub every-level-is-fresh : (n levels : ℕ) (vs rs : List ℕ) (ps : List ℤ) → stackVerdict n levels vs rs ps ≡ Accepted → (cs : List Call)
+    → Fresh n levels (refineValences n levels vs rs ps) (refineRings n levels vs rs ps)
+    (afterCalls n levels (refineValences n levels vs rs ps) (refineRings n levels vs rs ps) cs (refinePositions n levels vs rs ps))
+every-level-is-fresh n levels vs rs ps e cs =
+    calls-keep-fresh n levels (refineValences n levels vs rs ps) (refineRings n levels vs rs ps) cs (refinePositions n levels vs rs ps) (refinement-is-fresh n levels vs rs ps e)
+
+-- an accepted list leaves every untouched point as it was
+pub untouched-stays : (n levels : ℕ) (vs rs : List ℕ) (ps : List ℤ) (map : List ℕ) (ms : List Move) → applyVerdict n levels vs rs ps map ms ≡ Accepted
+    → (axis : ℕ) → axis < 3 → (k x : ℕ) → k ≤ levels → x < level (rows n vs rs) k .count → touched (loop (rows n vs rs)) (named ms) k x ≡ false
+    → coordinateAt (applyPositions n levels vs rs ps map ms) axis (levelStart n (edges (rows n vs rs)) k + x) ≡ coordinateAt ps axis (levelStart n (edges (rows n vs rs)) k + x)
+unfolding touched heldAt levelStart refreshed
+untouched-stays n levels vs rs ps map ms e axis b zero x h g q =
+    after-list n levels vs rs ps map ms e axis b 0 x h g
+    ∙ control-changes n levels vs rs ps map ms e .same x axis b q
+    ∙ ap (λ (j : ℕ). coordinateAt ps axis j) (sym (zero-add x))
+untouched-stays n levels vs rs ps map ms e axis b (suc k) x h g q =
+    after-list n levels vs rs ps map ms e axis b (suc k) x h g
+    ∙ refreshed-untouched (loop (rows n vs rs)) (named ms) (heldAt n vs rs ps axis) (coordinateAt (movedControl n levels vs rs ps map ms) axis) k x q

@@ -1,0 +1,114 @@
+-- What is judged before the first move: what each outcome of the judging function shows, and what an accepted judgement tells of the stack and the map. Assumes nothing.
+use Prim.Native.Nat.{ℕ, zero, suc, _+_, _*_, _/_, _≤_, _<_}
+use mathlib.Core.Path.{_≡_, refl, sym, ap, ap₂, _∙_}
+use mathlib.Core.Bool.{Bool, true, false}
+use mathlib.Core.List.{List}
+use native.Mathlib.Nat.{suc-mul}
+use native.Mathlib.Omega.{arith}
+use lib.Dec.{ltb}
+use lib.IntN.{ℤ}
+use lib.ListN.{length, getD}
+use borrow.Author.Tests.{lt-ltb, le-ltb, ltb-false}
+use Rattle.mesh.specs.Search.{sum, first}
+use Rattle.mesh.specs.Mesh.{edges}
+use Rattle.mesh.proofs.First.{Clear, first-clear, first-end, none-some, some-lt, some-not}
+use Rattle.rings.specs.Table.{rows}
+use Rattle.rings.specs.Verdict.{refuseIf, refuseAt, andThen}
+use Rattle.rings.specs.declared.Refusal.{Refusal}
+use Rattle.rings.specs.declared.Refusal.the-variants.{NoRoom, NotAsRefined, TooManyMoves}
+use Rattle.rings.specs.declared.Verdict.{Verdict}
+use Rattle.rings.specs.declared.Verdict.the-variants.{Accepted, Refused}
+use Rattle.rings.proofs.Verdicts.{if-hit, if-pass, at-hit, at-pass, if-accepted, at-accepted, then-accepted}
+use Rattle.map.specs.Map.{wordCount}
+use Rattle.refine.specs.Stack.{levelCount, levelStart, stackCount}
+use Rattle.refine.specs.Accepts.{AcceptsStack}
+use Rattle.refine.specs.Refinement.{stackVerdict}
+use Rattle.refine.proofs.AcceptedStack.{stack-only}
+use Rattle.refine.proofs.Judged.{counted-edges}
+use Rattle.as_refined.specs.Expected.{whole, strange}
+use Rattle.moves.specs.Apply.{beforeMoves}
+
+sum-most : (f : ℕ → ℕ) (m n : ℕ) → ((i : ℕ) → i < n → f i ≤ m) → sum f n ≤ n * m
+sum-most f m zero h = omega arith
+sum-most f m (suc n) h = omega (arith, sum-most f m n (λ i k. h i (omega arith)), h n (omega arith), suc-mul n m)
+
+-- ---- an accepted stack
+
+module _ {n levels : ℕ} {vs rs : List ℕ} {ps : List ℤ} (a : AcceptsStack n levels vs rs ps) where
+  pub edges-asked : (n ≤ length vs) × (n ≤ 1024)
+  edges-asked = (a .control .room .valences, a .control .high)
+
+  pub edges-are : (s : ℕ) → s ≡ sum (λ v. getD vs v 0) n / 2 → s ≡ edges (rows n vs rs)
+  edges-are s e = counted-edges n vs rs ps (a .control) s e
+
+  pub whole-is : (s w : ℕ) → s ≡ sum (λ v. getD vs v 0) n / 2 → w ≡ stackCount n s levels → w ≡ whole n levels vs rs ps
+  unfolding whole
+  whole-is s w e h = h ∙ ap (λ (x : ℕ). stackCount n x levels) (edges-are s e)
+
+  pub whole-small : whole n levels vs rs ps ≤ 1048576
+  unfolding whole stackCount levelStart
+  whole-small =
+      let h = sum-most (levelCount n (edges (rows n vs rs))) 65535 (suc levels) (λ i l. a .fits i (omega arith)) in
+      let l = a .high in
+      omega arith
+
+-- ---- the outcomes of the judgement
+
+module _ (n levels : ℕ) (vs rs : List ℕ) (ps : List ℤ) (words moves : ℕ) where
+  pub before-stack : (r : Refusal) → Refused r ≡ stackVerdict n levels vs rs ps → Refused r ≡ beforeMoves n levels vs rs ps words moves
+  unfolding beforeMoves andThen
+  before-stack r e = rw (← e)
+
+  module _ (e : Accepted ≡ stackVerdict n levels vs rs ps) where
+    module _ (w : ℕ) (h : w ≡ whole n levels vs rs ps) where
+      pub before-words : words < wordCount w → Refused NoRoom ≡ beforeMoves n levels vs rs ps words moves
+      unfolding beforeMoves andThen
+      before-words l = rw (← e, ← h) (if-hit (ltb words (wordCount w)) NoRoom _ true (sym (lt-ltb words (wordCount w) l)) refl)
+
+      module _ (room : wordCount w ≤ words) (x : ℕ) (f : x ≡ first (strange n levels vs rs ps) (whole n levels vs rs ps)) where
+        pub before-strange : x < w → Refused (NotAsRefined x) ≡ beforeMoves n levels vs rs ps words moves
+        unfolding beforeMoves andThen
+        before-strange l =
+            let g : x < whole n levels vs rs ps = rw h at l in
+            rw (← e, ← h)
+            (at-hit (strange n levels vs rs ps) w NotAsRefined _ x (f ∙ ap (first (strange n levels vs rs ps)) (sym h)) l
+            ∙ sym (if-pass (ltb words (wordCount w)) NoRoom _ false (sym (le-ltb words (wordCount w) room)) refl))
+
+        module _ (none : w ≤ x) where
+          pub before-many : 64 < moves → Refused TooManyMoves ≡ beforeMoves n levels vs rs ps words moves
+          unfolding beforeMoves andThen
+          before-many l =
+              rw (← e, ← h)
+              (if-hit (ltb 64 moves) TooManyMoves Accepted true (sym (lt-ltb 64 moves l)) refl
+              ∙ sym (at-pass (strange n levels vs rs ps) w NotAsRefined _ x (f ∙ ap (first (strange n levels vs rs ps)) (sym h)) none)
+              ∙ sym (if-pass (ltb words (wordCount w)) NoRoom _ false (sym (le-ltb words (wordCount w) room)) refl))
+
+          pub before-accepted : moves ≤ 64 → Accepted ≡ beforeMoves n levels vs rs ps words moves
+          unfolding beforeMoves andThen
+          before-accepted l =
+              rw (← e, ← h)
+              (sym (if-pass (ltb 64 moves) TooManyMoves Accepted false (sym (le-ltb 64 moves l)) refl)
+              ∙ sym (at-pass (strange n levels vs rs ps) w NotAsRefined _ x (f ∙ ap (first (strange n levels vs rs ps)) (sym h)) none)
+              ∙ sym (if-pass (ltb words (wordCount w)) NoRoom _ false (sym (le-ltb words (wordCount w) room)) refl))
+
+  -- ---- what an accepted judgement tells
+
+  pub record Judged : Type 0 where
+    pub stack : AcceptsStack n levels vs rs ps
+    pub room : wordCount (whole n levels vs rs ps) ≤ words
+    pub true′ : whole n levels vs rs ps ≡ first (strange n levels vs rs ps) (whole n levels vs rs ps)
+    pub few : moves ≤ 64
+
+  pub judged : beforeMoves n levels vs rs ps words moves ≡ Accepted → Judged
+  unfolding beforeMoves
+  judged e =
+      let b = then-accepted (stackVerdict n levels vs rs ps) _ e in
+      let c = if-accepted (ltb words (wordCount (whole n levels vs rs ps))) _ _ (b .1) in
+      let d = at-accepted (strange n levels vs rs ps) (whole n levels vs rs ps) _ _ (c .1) in
+      let f = if-accepted (ltb 64 moves) _ _ (d .1) in
+      record {
+        stack = stack-only n levels vs rs ps (b .0);
+        room = ltb-false words (wordCount (whole n levels vs rs ps)) (c .0);
+        true′ = first-end (d .0) (omega arith) (omega arith);
+        few = ltb-false 64 moves (f .0);
+      }

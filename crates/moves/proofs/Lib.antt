@@ -1,0 +1,14 @@
+-- Demand 3; then the laws on lists of moves and on the stack after them.
+pub mod EveryLevelIsFresh
+pub mod MapShowsTouched
+-- laws
+pub mod ControlPoints
+pub mod AfterList
+pub mod Plans
+pub mod FairPlans
+pub mod Laid
+pub mod PlansMeanMoves
+pub mod Shared
+pub mod Judging
+pub mod CarriedOut
+pub mod Settled

@@ -1,0 +1,92 @@
+-- An accepted list marks exactly the touched points of the stack, those it names and those that depend on them through the masks,
+-- and what it answers is their number: the ones in the map (section "Moves").
+-- Assumes nothing.
+use Prim.Native.Nat.{ℕ, suc, _+_, _*_, _≤_, _<_}
+use mathlib.Core.Path.{_≡_, refl, sym, ap, ap₂, _∙_}
+use mathlib.Core.Bool.{Bool, true, false, _&&_}
+use mathlib.Core.List.{List}
+use native.Mathlib.Omega.{arith}
+use lib.Dec.{ltb}
+use lib.IntN.{ℤ}
+use lib.ListN.{length}
+use borrow.Author.Tests.{lt-ltb, le-ltb}
+use Rattle.mesh.specs.Mesh.{Mesh, edges}
+use Rattle.mesh.specs.Refine.{level}
+use Rattle.mesh.specs.Mask.{touched}
+use Rattle.mesh.specs.Loop.{loop}
+use Rattle.rings.specs.Table.{put, rows}
+use Rattle.rings.specs.Verdict.{after, withAmount}
+use Rattle.rings.specs.declared.Verdict.the-variants.{Accepted}
+use Rattle.rings.specs.declared.Amount.the-variants.{Of}
+use Rattle.map.specs.Map.{marked, wordCount, mapWords, members, onesIn, Words}
+use Rattle.map.proofs.Bits.{members-same}
+use Rattle.map.proofs.Sets.{ones-members, words-after, marked-first}
+use Rattle.refine.specs.Stack.{levelStart, stackCount, levelOf, numberIn}
+use Rattle.refine.proofs.Sizes.{level-count}
+use Rattle.refine.proofs.StackVertices.{vertex-in, level-of, number-in}
+use Rattle.as_refined.specs.Expected.{whole}
+use Rattle.refresh.specs.Stack.{TouchedMarked}
+use Rattle.refresh.proofs.TouchedMarks.{marks-counted}
+use Rattle.moves.specs.Moves.{named}
+use Rattle.moves.specs.Apply.{touchedAt, touchedTotal, touchedMap, applyVerdict, applyAnswer, applyMap}
+use Rattle.moves.specs.declared.Move.{Move}
+use Rattle.moves.proofs.AfterList.{control-first, stack-accepted, names-below, map-room}
+
+module _ (n levels : ℕ) (vs rs : List ℕ) (ps : List ℤ) (map : List ℕ) (ms : List Move) (accepted : applyVerdict n levels vs rs ps map ms ≡ Accepted) where
+  abbrev M : Mesh
+  M = rows n vs rs
+
+  abbrev W : ℕ
+  W = whole n levels vs rs ps
+
+  map-is : applyMap n levels vs rs ps map ms ≡ put map 0 (mapWords (touchedAt n levels vs rs ps (named ms)) W)
+  unfolding applyMap touchedMap after
+  map-is = rw accepted
+
+  room : wordCount W ≤ length map
+  room = map-room n levels vs rs ps map ms accepted
+
+  marks : (i : ℕ) → i < wordCount W * 32 → marked (applyMap n levels vs rs ps map ms) i ≡ (ltb i W && touchedAt n levels vs rs ps (named ms) i)
+  marks i h = ap (λ (m : List ℕ). marked m i) map-is ∙ marked-first (touchedAt n levels vs rs ps (named ms)) W map room i h
+
+  -- vertex x of level k is a stack vertex, and touched as such where it is touched
+  in-stack : (k x : ℕ) → k ≤ levels → x < level M k .count → (levelStart n (edges M) k + x < W) × (touchedAt n levels vs rs ps (named ms) (levelStart n (edges M) k + x) ≡ touched (loop M) (named ms) k x)
+  unfolding touchedAt whole rows
+  in-stack k x l h =
+      let c = level-count M (stack-accepted n levels vs rs ps map ms accepted .control .sound) k in
+      (vertex-in n (edges M) levels k x l (omega arith), ap₂ (touched (loop M) (named ms)) (level-of n (edges M) levels k x l (omega arith)) (number-in n (edges M) levels k x l (omega arith)))
+
+  -- the map marks vertex x of level k exactly where it is touched
+  pub map-shows-touched : (k x : ℕ) → k ≤ levels → x < level M k .count
+      → marked (applyMap n levels vs rs ps map ms) (levelStart n (edges M) k + x) ≡ touched (loop M) (named ms) k x
+  map-shows-touched k x l h =
+      let s = in-stack k x l h in
+      let b = s .0 in
+      marks (levelStart n (edges M) k + x) (omega arith) ∙ rw (lt-ltb (levelStart n (edges M) k + x) W b) (s .1)
+
+  control-first-in : n ≤ stackCount n (edges M) levels
+  unfolding stackCount
+  control-first-in = control-first n (edges M) levels
+
+  behind : (j : ℕ) → stackCount n (edges M) levels ≤ j → (ltb j W && touchedAt n levels vs rs ps (named ms) j) ≡ named ms j
+  unfolding whole
+  behind j h = let c = control-first-in in rw (le-ltb j W h) (sym (names-below n levels vs rs ps map ms accepted j (omega arith)))
+
+  -- the marks as a set, which has nothing behind the stack
+  touched-marked : TouchedMarked n levels vs rs (named ms) (λ i. ltb i W && touchedAt n levels vs rs ps (named ms) i)
+  touched-marked = record {
+    at = λ k x l h. let s = in-stack k x l h in rw (lt-ltb (levelStart n (edges M) k + x) W (s .0)) (s .1);
+    behind = behind;
+  }
+
+  counted : Words map → onesIn (applyMap n levels vs rs ps map ms) (wordCount W) ≡ touchedTotal n levels vs rs ps (named ms)
+  unfolding touchedTotal whole
+  counted w =
+      ones-members (applyMap n levels vs rs ps map ms) (rw map-is (words-after (touchedAt n levels vs rs ps (named ms)) W map room w)) (wordCount W)
+      ∙ members-same (marked (applyMap n levels vs rs ps map ms)) (λ i. ltb i W && touchedAt n levels vs rs ps (named ms) i) (wordCount W * 32) marks
+      ∙ marks-counted (stack-accepted n levels vs rs ps map ms accepted) touched-marked (λ j h g. let c = control-first-in in names-below n levels vs rs ps map ms accepted j (omega arith))
+
+  -- the answer is the number of ones in the map, where its words are words of 32 bits
+  pub answer-counts-ones : Words map → applyAnswer n levels vs rs ps map ms ≡ Of (onesIn (applyMap n levels vs rs ps map ms) (wordCount W))
+  unfolding applyAnswer withAmount
+  answer-counts-ones w = rw accepted (ap Of (sym (counted w)))

@@ -1,0 +1,116 @@
+-- The outcomes of settling a plan, and that settling the plan of a list is the call with the list. Assumes nothing.
+use Prim.Native.Nat.{ℕ, _*_, _≤_, _<_}
+use mathlib.Core.Path.{_≡_, refl, sym, ap, ap₂, subst, _∙_}
+use mathlib.Core.Bool.{Bool}
+use mathlib.Core.List.{List}
+use native.Mathlib.Omega.{arith}
+use lib.IntN.{ℤ}
+use lib.ListN.{length}
+use Rattle.rings.specs.Verdict.{andThen, after, withAmount}
+use Rattle.rings.specs.declared.Refusal.{Refusal}
+use Rattle.rings.specs.declared.Verdict.{Verdict}
+use Rattle.rings.specs.declared.Verdict.the-variants.{Accepted, Refused}
+use Rattle.rings.specs.declared.Amount.{Amount}
+use Rattle.rings.specs.declared.Amount.the-variants as amount
+use Rattle.rings.specs.declared.Amount.the-variants.{Of}
+use Rattle.refresh.specs.Stack.{refreshedPositions}
+use Rattle.moves.specs.Moves.{Pending, pending, run, named, pendingVerdict, pendingPoints}
+use Rattle.moves.specs.Apply.{beforeMoves, touchedTotal, touchedMap, moved, movedControl, applyVerdict, applyAnswer, applyPositions, applyMap}
+use Rattle.moves.specs.Plan.{emptyPlan, planned, laid, namedIn, walkOf}
+use Rattle.moves.specs.Settle.{settleVerdict, settleAnswer, settlePositions, settleMap}
+use Rattle.moves.specs.declared.Plan.{Plan}
+use Rattle.moves.specs.declared.Move.{Move}
+use Rattle.moves.proofs.FairPlans.{walk-count}
+use Rattle.moves.proofs.Judging.{Judged, judged}
+use Rattle.moves.proofs.PlansMeanMoves.{Means, plan-means}
+
+module _ (plan : Plan) (moves levels : ℕ) (vs rs : List ℕ) (ps : List ℤ) (map : List ℕ) where
+  -- refused before the first move
+  pub settle-stopped : (r : Refusal) → Refused r ≡ beforeMoves (plan .count) levels vs rs ps (length map) moves
+      → (amount.Refused r ≡ settleAnswer plan moves levels vs rs ps map) × (ps ≡ settlePositions plan moves levels vs rs ps map) × (map ≡ settleMap plan moves levels vs rs ps map)
+  unfolding settleAnswer settlePositions settleMap settleVerdict andThen after withAmount
+  settle-stopped r e = (rw (← e), rw (← e), rw (← e))
+
+  module _ (e : Accepted ≡ beforeMoves (plan .count) levels vs rs ps (length map) moves) where
+    -- refused by a move
+    pub settle-unplanned : (r : Refusal) → plan .verdict ≡ Refused r
+        → (amount.Refused r ≡ settleAnswer plan moves levels vs rs ps map) × (ps ≡ settlePositions plan moves levels vs rs ps map) × (map ≡ settleMap plan moves levels vs rs ps map)
+    unfolding settleAnswer settlePositions settleMap settleVerdict andThen after withAmount
+    settle-unplanned r h = (rw (← e, h), rw (← e, h), rw (← e, h))
+
+    -- carried out
+    pub settle-done : plan .verdict ≡ Accepted → (count : ℕ) (ps′ : List ℤ) (map′ : List ℕ)
+        → count ≡ touchedTotal (plan .count) levels vs rs ps (namedIn (planned plan))
+        → ps′ ≡ refreshedPositions (plan .count) vs rs (namedIn (planned plan)) (laid ps (planned plan)) levels
+        → map′ ≡ touchedMap (plan .count) levels vs rs ps (namedIn (planned plan)) map
+        → (Of count ≡ settleAnswer plan moves levels vs rs ps map) × (ps′ ≡ settlePositions plan moves levels vs rs ps map) × (map′ ≡ settleMap plan moves levels vs rs ps map)
+    unfolding settleAnswer settlePositions settleMap settleVerdict andThen after withAmount planned
+    settle-done h count ps′ map′ a b c = (rw (← e, h) (ap Of a), rw (← e, h) b, rw (← e, h) c)
+
+-- ---- the plan of a list
+
+module _ (n levels : ℕ) (vs rs : List ℕ) (ps : List ℤ) (map : List ℕ) (ms : List Move) where
+  abbrev plan : Plan
+  plan = walkOf ps ms (emptyPlan n)
+
+  -- all three of a call's outcome, by its verdict, names and control points
+  record Outcome (answer : Amount) (positions : List ℤ) (marks : List ℕ) (verdict : Verdict) (names : ℕ → Bool) (control : List ℤ) : Type 0 where
+    answers : answer ≡ withAmount verdict (touchedTotal n levels vs rs ps names)
+    points : positions ≡ after verdict (refreshedPositions n vs rs names control levels) ps
+    marked : marks ≡ after verdict (touchedMap n levels vs rs ps names map) map
+
+  by-plan : Outcome (settleAnswer plan (length ms) levels vs rs ps map) (settlePositions plan (length ms) levels vs rs ps map) (settleMap plan (length ms) levels vs rs ps map)
+      (andThen (beforeMoves n levels vs rs ps (length map) (length ms)) (plan .verdict)) (namedIn (planned plan)) (laid ps (planned plan))
+  unfolding settleAnswer settlePositions settleMap settleVerdict
+  by-plan = let c = walk-count ps ms n in record { answers = rw c; points = rw c; marked = rw c }
+
+  by-list : Outcome (applyAnswer n levels vs rs ps map ms) (applyPositions n levels vs rs ps map ms) (applyMap n levels vs rs ps map ms)
+      (andThen (beforeMoves n levels vs rs ps (length map) (length ms)) (pendingVerdict (moved n levels vs rs ps map ms))) (named ms) (movedControl n levels vs rs ps map ms)
+  unfolding applyAnswer applyPositions applyMap applyVerdict
+  by-list = record { answers = refl; points = refl; marked = refl }
+
+  -- two outcomes with one verdict, and, where it is accepted, with the same names and control points
+  same-outcome : {A A′ : Amount} {P P′ : List ℤ} {K K′ : List ℕ} {s s′ : ℕ → Bool} {c c′ : List ℤ} (v : Verdict) → Outcome A P K v s c → Outcome A′ P′ K′ v s′ c′
+      → (v ≡ Accepted → (s ≡ s′) × (c ≡ c′)) → (A ≡ A′) × (P ≡ P′) × (K ≡ K′)
+  unfolding withAmount after
+  same-outcome Accepted o o′ f =
+      let e = f refl in (
+        o .answers ∙ ap (λ (s : ℕ → Bool). Of (touchedTotal n levels vs rs ps s)) (e .0) ∙ sym (o′ .answers),
+        o .points ∙ ap₂ (λ (s : ℕ → Bool) (c : List ℤ). refreshedPositions n vs rs s c levels) (e .0) (e .1) ∙ sym (o′ .points),
+        o .marked ∙ ap (λ (s : ℕ → Bool). touchedMap n levels vs rs ps s map) (e .0) ∙ sym (o′ .marked),
+      )
+  same-outcome (Refused r) o o′ f = (o .answers ∙ sym (o′ .answers), o .points ∙ sym (o′ .points), o .marked ∙ sym (o′ .marked))
+
+  judged-list : beforeMoves n levels vs rs ps (length map) (length ms) ≡ Accepted → Means n ps ms
+  judged-list e =
+      let j = judged n levels vs rs ps (length map) (length ms) e in
+      plan-means n ps ms (j .stack .control .points) (j .stack .control .near) (j .few)
+
+  -- settling the plan of a list is the call with the list: answer, positions and map
+  pub settle-is-apply : (settleAnswer plan (length ms) levels vs rs ps map ≡ applyAnswer n levels vs rs ps map ms)
+      × (settlePositions plan (length ms) levels vs rs ps map ≡ applyPositions n levels vs rs ps map ms)
+      × (settleMap plan (length ms) levels vs rs ps map ≡ applyMap n levels vs rs ps map ms)
+  unfolding andThen moved movedControl
+  settle-is-apply = go (beforeMoves n levels vs rs ps (length map) (length ms)) refl
+    where
+      go : (w : Verdict) → beforeMoves n levels vs rs ps (length map) (length ms) ≡ w
+          → (settleAnswer plan (length ms) levels vs rs ps map ≡ applyAnswer n levels vs rs ps map ms)
+          × (settlePositions plan (length ms) levels vs rs ps map ≡ applyPositions n levels vs rs ps map ms)
+          × (settleMap plan (length ms) levels vs rs ps map ≡ applyMap n levels vs rs ps map ms)
+      go Accepted e =
+          let m = judged-list e in
+          let list : Outcome (applyAnswer n levels vs rs ps map ms) (applyPositions n levels vs rs ps map ms) (applyMap n levels vs rs ps map ms) (plan .verdict) (named ms) (movedControl n levels vs rs ps map ms) =
+          subst (λ (v : Verdict). Outcome (applyAnswer n levels vs rs ps map ms) (applyPositions n levels vs rs ps map ms) (applyMap n levels vs rs ps map ms) v (named ms) (movedControl n levels vs rs ps map ms))
+          (ap (λ (b : Verdict). andThen b (pendingVerdict (moved n levels vs rs ps map ms))) e ∙ sym (m .verdict)) by-list in
+          same-outcome (plan .verdict)
+          (subst (λ (b : Verdict). Outcome (settleAnswer plan (length ms) levels vs rs ps map) (settlePositions plan (length ms) levels vs rs ps map) (settleMap plan (length ms) levels vs rs ps map)
+          (andThen b (plan .verdict)) (namedIn (planned plan)) (laid ps (planned plan))) e by-plan)
+          list
+          (λ q. (m .names q, m .points q))
+      go (Refused r) e =
+          same-outcome (Refused r)
+          (subst (λ (b : Verdict). Outcome (settleAnswer plan (length ms) levels vs rs ps map) (settlePositions plan (length ms) levels vs rs ps map) (settleMap plan (length ms) levels vs rs ps map)
+          (andThen b (plan .verdict)) (namedIn (planned plan)) (laid ps (planned plan))) e by-plan)
+          (subst (λ (b : Verdict). Outcome (applyAnswer n levels vs rs ps map ms) (applyPositions n levels vs rs ps map ms) (applyMap n levels vs rs ps map ms)
+          (andThen b (pendingVerdict (moved n levels vs rs ps map ms))) (named ms) (movedControl n levels vs rs ps map ms)) e by-list)
+          (λ q. absurd (let z : _≡_ {A = ℕ} 0 1 = cc in omega arith))

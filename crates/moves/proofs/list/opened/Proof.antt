@@ -1,0 +1,12 @@
+-- `opened` meets its contract. Assumes nothing.
+use mathlib.Core.Path.{refl}
+use Rattle.moves.specs.Plan.{emptyPlan}
+use Rattle.moves.proofs.list.opened.Statement.{statement}
+use Rattle.moves.proofs.list.opened.Tie as tie
+
+returns : tie.Need-returns
+unfolding emptyPlan
+returns c = refl
+
+pub opened-spec : {M : Type 1} → statement M
+opened-spec = tie.close (tie.spec returns)

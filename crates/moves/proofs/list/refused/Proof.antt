@@ -1,0 +1,12 @@
+-- `refused` meets its contract. Assumes nothing.
+use mathlib.Core.Path.{refl}
+use Rattle.moves.specs.Plan.{refusedIn}
+use Rattle.moves.proofs.list.refused.Statement.{statement}
+use Rattle.moves.proofs.list.refused.Tie as tie
+
+returns : tie.Need-returns
+unfolding refusedIn
+returns c = refl
+
+pub refused-spec : {M : Type 1} → statement M
+refused-spec = tie.close (tie.spec returns)

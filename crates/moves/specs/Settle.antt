@@ -1,0 +1,30 @@
+-- The same call by the plan of its list instead of the list: what is done with a plan once the stack is judged.
+-- Assumes nothing.
+use mathlib.Core.List.{List}
+use Prim.Native.Nat.{ℕ}
+use lib.IntN.{ℤ}
+use lib.ListN.{length}
+use Rattle.rings.specs.Verdict.{andThen, after, withAmount}
+use Rattle.rings.specs.declared.Verdict.{Verdict}
+use Rattle.rings.specs.declared.Amount.{Amount}
+use Rattle.refresh.specs.Stack.{refreshedPositions}
+use Rattle.moves.specs.Plan.{planned, laid, namedIn}
+use Rattle.moves.specs.Apply.{beforeMoves, touchedTotal, touchedMap}
+use Rattle.moves.specs.declared.Plan.{Plan}
+
+module _ (plan : Plan) (moves levels : ℕ) (vs rs : List ℕ) (ps : List ℤ) (map : List ℕ) where
+  -- the stack is judged, then the plan's verdict stands
+  unfoldable pub settleVerdict : Verdict
+  settleVerdict = andThen (beforeMoves (plan .count) levels vs rs ps (length map) moves) (plan .verdict)
+
+  -- what the call answers
+  unfoldable pub settleAnswer : Amount
+  settleAnswer = withAmount settleVerdict (touchedTotal (plan .count) levels vs rs ps (namedIn (planned plan)))
+
+  -- the positions after the call
+  unfoldable pub settlePositions : List ℤ
+  settlePositions = after settleVerdict (refreshedPositions (plan .count) vs rs (namedIn (planned plan)) (laid ps (planned plan)) levels) ps
+
+  -- the map after the call
+  unfoldable pub settleMap : List ℕ
+  settleMap = after settleVerdict (touchedMap (plan .count) levels vs rs ps (namedIn (planned plan)) map) map
