@@ -1,0 +1,54 @@
+-- Lists that are gathered row by row: where a row stands in them, and when two are the same. Assumes nothing.
+use Prim.Native.Nat.{ℕ, zero, suc, _+_, _*_, _≤_, _<_}
+use mathlib.Core.Path.{_≡_, refl, sym, ap, ap₂, _∙_}
+use mathlib.Core.List.{List, [], _∷_, _++_, append-assoc, append-nil}
+use mathlib.Core.Logic.{⊎-elim}
+use native.Mathlib.Nat.{eq-or-lt-of-le, zero-mul, suc-mul}
+use native.Mathlib.Omega.{arith}
+use lib.ListN.{length, getD, take, drop, length-append}
+use lib.Seq.{take-suc, take-length, drop-at}
+use Rattle.rings.specs.Table.{put, gather}
+use Rattle.rings.proofs.Tables.{gather-at}
+
+module _ {A : Type 0} where
+  -- row v, with what comes before and after it
+  pub gather-split : (f : ℕ → List A) (v n : ℕ) → v < n → (more : List A) × (gather f n ≡ gather f v ++ (f v ++ more))
+  gather-split f v zero h = absurd (omega arith)
+  gather-split f v (suc n) h =
+      ⊎-elim
+      (λ e. let q : n ≡ v = omega arith in ([], ap (λ (k : ℕ). gather f k ++ f k) q ∙ ap (λ (x : List A). gather f v ++ x) (sym (append-nil (f v)))))
+      (λ l. let (m, q) = gather-split f v n (omega arith) in (m ++ f n, ap (λ (x : List A). x ++ f n) q ∙ simp append-assoc))
+      (eq-or-lt-of-le h)
+
+  -- the list from row v on
+  pub gather-drop : (f : ℕ → List A) (v n k : ℕ) (tail : List A) → v < n → k ≡ length (gather f v) → (more : List A) × (drop k (gather f n ++ tail) ≡ f v ++ more)
+  gather-drop f v n k tail h e =
+      let (m, q) = gather-split f v n h in
+      let g : gather f n ++ tail ≡ gather f v ++ (f v ++ (m ++ tail)) = ap (λ (x : List A). x ++ tail) q ∙ simp append-assoc in
+      (m ++ tail, ap (drop k) g ∙ drop-at (gather f v) (f v ++ (m ++ tail)) k (sym e))
+
+  pub gather-same : (f g : ℕ → List A) (n : ℕ) → ((v : ℕ) → v < n → f v ≡ g v) → gather f n ≡ gather g n
+  gather-same f g zero h = refl
+  gather-same f g (suc n) h = ap₂ (λ (x y : List A). x ++ y) (gather-same f g n (λ v l. h v (omega arith))) (h n (omega arith))
+
+  -- rows that are equally long as far as it matters
+  pub length-rows-below : (f : ℕ → List A) (k n : ℕ) → ((v : ℕ) → v < n → length (f v) ≡ k) → length (gather f n) ≡ n * k
+  length-rows-below f k zero h = sym (zero-mul k)
+  length-rows-below f k (suc n) h = length-append (gather f n) (f n) ∙ omega (arith, length-rows-below f k n (λ v l. h v (omega arith)), h n (omega arith), suc-mul n k)
+
+  -- a list's elements one by one are the list
+  gather-take : (l : List A) (d : A) (n : ℕ) → n ≤ length l → gather (λ i. getD l i d ∷ []) n ≡ take n l
+  gather-take l d zero h = refl
+  gather-take l d (suc n) h = ap (λ (x : List A). x ++ (getD l n d ∷ [])) (gather-take l d n (omega arith)) ∙ sym (take-suc l n d h)
+
+  pub gather-all : (l : List A) (d : A) → gather (λ i. getD l i d ∷ []) (length l) ≡ l
+  gather-all l d = gather-take l d (length l) (omega arith) ∙ take-length l
+
+  -- element i of rows of one element each
+  pub gather-one : (g : ℕ → A) (n i : ℕ) (d : A) → i < n → getD (gather (λ j. g j ∷ []) n) i d ≡ g i
+  gather-one g n i d h = let e : i ≡ i * 1 + 0 = omega arith in ap (λ (k : ℕ). getD (gather (λ j. g j ∷ []) n) k d) e ∙ gather-at (λ j. g j ∷ []) 1 (λ j. refl) n i 0 d h (omega arith)
+
+  -- a table that begins with these rows
+  pub put-front : (t b : List A) → put t 0 b ≡ b ++ drop (0 + length b) t
+  unfolding put
+  put-front t b = refl

@@ -1,0 +1,19 @@
+-- Laws of the mesh file.
+pub mod Blocks
+pub mod Numbers
+pub mod Signed
+pub mod Finding
+pub mod Judging
+pub mod RowsRead
+pub mod RowsWritten
+pub mod Gathered
+pub mod Inverse
+pub mod Written
+pub mod InTables
+pub mod ReadBack
+pub mod Different
+pub mod FileLength
+pub mod Parts
+pub mod WriteBack
+pub mod Grammar
+pub mod Faults

@@ -1,0 +1,12 @@
+-- What the record reader finds at the place that it has reached.
+-- Assumes nothing.
+use mathlib.Core.Bool.{cond}
+use mathlib.Core.List.{List}
+use Prim.Native.Nat.{ℕ}
+use Rattle.meshfile.specs.Bytes.{lengthAt, kindAt, afterAt, wholeAt}
+use Rattle.meshfile.specs.declared.Found.{Found}
+use Rattle.meshfile.specs.declared.Found.the-variants.{Whole, Cut}
+
+-- a whole record, or bytes that are missing
+unfoldable pub foundAt : List ℕ → ℕ → Found
+foundAt s at = cond (wholeAt s at) (Whole (kindAt s at) (lengthAt s at) (afterAt s at)) Cut

@@ -1,0 +1,29 @@
+// The mesh file: numbers in bytes, the record reader, the layout, reading and writing.
+pub mod bytes;
+pub mod layout;
+pub mod reading;
+pub mod records;
+pub mod writing;
+
+// The kinds of record: the first with the number of vertices, a row, the last.
+pub const FIRST: usize = 1;
+
+pub const ROW: usize = 2;
+
+pub const LAST: usize = 3;
+
+// What the record reader finds: a whole record with the place after it, or bytes that are missing.
+pub enum Found {
+    Whole {
+        kind: usize,
+        length: usize,
+        next: usize,
+    },
+    Cut,
+}
+
+// How far the rows of a file are as expected: the first that is not, or their number, and where it begins.
+pub struct Reached {
+    pub row: usize,
+    pub at: usize,
+}
