@@ -1,0 +1,3 @@
+-- Laws of the listing's text.
+pub mod Writing
+pub mod Outcome

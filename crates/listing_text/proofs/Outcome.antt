@@ -1,0 +1,96 @@
+-- What the listing relies on and says at each outcome of reading and of refining. Assumes nothing.
+use Prim.Native.Nat.{ℕ, _+_, _*_, _≤_, _<_}
+use mathlib.Core.Path.{_≡_, refl, sym, ap, _∙_}
+use mathlib.Core.List.{List, _++_}
+use native.Mathlib.Omega.{arith}
+use borrow.Author.Tests.{lt-ltb, le-ltb}
+use lib.IntN.{ℤ, pos}
+use lib.ListN.{length, replicate}
+use Rattle.mesh.specs.Mesh.{edges, faces}
+use Rattle.mesh.specs.Refine.{level}
+use Rattle.rings.specs.Table.{rows, gather, put}
+use Rattle.rings.specs.Verdict.{withCounts}
+use Rattle.rings.specs.declared.Refusal.{Refusal}
+use Rattle.rings.specs.declared.Refusal.the-variants.{NoRoom}
+use Rattle.rings.specs.declared.Verdict.{Verdict}
+use Rattle.rings.specs.declared.Verdict.the-variants.{Accepted, Refused}
+use Rattle.rings.specs.declared.Amount.{Amount}
+use Rattle.rings.specs.declared.Amount.the-variants as amount
+use Rattle.rings.specs.declared.Amount.the-variants.{Of}
+use Rattle.rings.specs.declared.Counted.{Counted}
+use Rattle.rings.specs.declared.Counted.the-variants as counted
+use Rattle.rings.specs.declared.Counted.the-variants.{Counts}
+use Rattle.refine.specs.Stack.{stackCount}
+use Rattle.refine.specs.Refinement.{stackVerdict, refineAnswer}
+use Rattle.refine.proofs.AcceptedStack.{stack-only}
+use Rattle.refine.proofs.Sizes.{level-count, start-none, start-suc}
+use Rattle.meshfile.specs.Read.{readAnswer, readValences, readRings, readPositions}
+use Rattle.listing_text.specs.Wrote.{Wrote}
+use Rattle.listing_text.specs.Lines.{countsLine, vertexLine, refusedLine}
+use Rattle.listing_text.specs.Listing.{levelText, refinedText, meshText, fileText, listingText}
+
+-- a stack of one level has the control vertices and those of level 1
+one-level : (n e : ℕ) → stackCount n e 1 ≡ n + (n + e)
+unfolding stackCount
+one-level n e = omega (arith, start-none n e, start-suc n e 0, start-suc n e 1)
+
+module _ (n : ℕ) (vs rs : List ℕ) (ps : List ℤ) (v e f : ℕ) where
+  -- level 1 stands in the tables where refinement answers its counts
+  pub level-fits : Counts v e f ≡ refineAnswer n 1 vs rs ps → (n + v ≤ length vs) × ((n + v) * 3 ≤ length ps)
+  unfolding refineAnswer withCounts rows
+  level-fits h = go (stackVerdict n 1 vs rs ps) refl h
+    where
+      go : (w : Verdict) → stackVerdict n 1 vs rs ps ≡ w → Counts v e f ≡ withCounts w (level (rows n vs rs) 1 .count) (edges (level (rows n vs rs) 1)) (faces (level (rows n vs rs) 1))
+          → (n + v ≤ length vs) × ((n + v) * 3 ≤ length ps)
+      go Accepted g h =
+          let a = stack-only n 1 vs rs ps g in
+          let c : v ≡ level (rows n vs rs) 1 .count = cc in
+          let m : rows n vs rs .count ≡ n = refl in
+          let d = level-count (rows n vs rs) (a .control .sound) 1 in
+          let s = one-level n (edges (rows n vs rs)) in
+          (omega (arith, a .room .valences), omega (arith, a .points))
+      go (Refused r) g h = let z : _≡_ {A = ℕ} 0 1 = cc in absurd (omega arith)
+
+-- ---- the text at each outcome
+
+-- refinement is refused, or answers the counts of level 1 and leaves these tables
+pub level-refused : (n : ℕ) (vs : List ℕ) (ps : List ℤ) {x y : Counted} {r : Refusal} → x ≡ counted.Refused r → x ≡ y → refusedLine r ≡ levelText n vs ps y
+unfolding levelText
+level-refused n vs ps e f = ap (levelText n vs ps) (sym e ∙ f)
+
+pub level-counted : (n : ℕ) {vs₁ vs : List ℕ} {ps₁ ps : List ℤ} {x y : Counted} (v e f : ℕ) → x ≡ Counts v e f → x ≡ y → vs₁ ≡ vs → ps₁ ≡ ps
+    → countsLine 1 v e f ++ gather (vertexLine vs₁ ps₁ n) v ≡ levelText n vs ps y
+unfolding levelText
+level-counted n {vs₁} {vs} {ps₁} {ps} v e f a b g h =
+    ap (λ (l : List ℕ). levelText n l ps₁ (Counts v e f)) g ∙ ap (λ (l : List ℤ). levelText n vs l (Counts v e f)) h ∙ ap (levelText n vs ps) (sym a ∙ b)
+
+module _ (s vs rs : List ℕ) (ps : List ℤ) where
+  -- reading is refused, or answers V and leaves these tables
+  pub read-refused : {x : Amount} {r : Refusal} → x ≡ amount.Refused r → x ≡ readAnswer s vs rs ps → refusedLine r ≡ fileText s vs rs ps
+  unfolding fileText meshText
+  read-refused e f = ap (meshText (readValences s vs rs ps) (readRings s vs rs ps) (readPositions s vs rs ps)) (sym e ∙ f)
+
+  pub read-counted : {x : Amount} (n : ℕ) (vs₁ rs₁ : List ℕ) (ps₁ : List ℤ) → x ≡ Of n → x ≡ readAnswer s vs rs ps → vs₁ ≡ readValences s vs rs ps → rs₁ ≡ readRings s vs rs ps → ps₁ ≡ readPositions s vs rs ps
+      → refinedText n vs₁ rs₁ ps₁ ≡ fileText s vs rs ps
+  unfolding fileText meshText
+  read-counted n vs₁ rs₁ ps₁ e f a b g =
+      ap (λ (l : List ℕ). meshText l rs₁ ps₁ (Of n)) a
+      ∙ ap (λ (l : List ℕ). meshText (readValences s vs rs ps) l ps₁ (Of n)) b
+      ∙ ap (λ (l : List ℤ). meshText (readValences s vs rs ps) (readRings s vs rs ps) l (Of n)) g
+      ∙ ap (meshText (readValences s vs rs ps) (readRings s vs rs ps) (readPositions s vs rs ps)) (sym e ∙ f)
+
+-- the input is too long, or not
+pub listing-long : (s : List ℕ) → 16384 < length s → refusedLine NoRoom ≡ listingText s
+unfolding listingText
+listing-long s h = rw (lt-ltb 16384 (length s) h)
+
+pub listing-read : (s : List ℕ) → length s ≤ 16384 → fileText s (replicate 256 0) (replicate 8192 0) (replicate 768 (pos 0)) ≡ listingText s
+unfolding listingText
+listing-read s h = rw (le-ltb 16384 (length s) h)
+
+-- what is written from place 0 on is the whole text
+pub whole-text : {l m a : List ℕ} {k n : ℕ} (b : List ℕ) → Wrote l 0 a m k n → n ≤ 32768 → a ≡ b → (m ≡ put l 0 b) × ((k ≡ length b) × (k ≤ 32768))
+whole-text {l} {m} {a} {k} {n} b w h e =
+    let f = w .ends in
+    let g = w .within in
+    (w .put .is ∙ ap (put l 0) e, (let z : k ≡ length a = omega arith in z ∙ ap length e, omega arith))

@@ -1,0 +1,41 @@
+-- The whole text of the listing (document 01): the input is read, refined one level in tables for 256 vertices, and level 1 is printed; or one line says why not.
+-- Assumes nothing.
+use mathlib.Core.Bool.{cond}
+use mathlib.Core.List.{List, _++_}
+use Prim.Native.Nat.{ℕ}
+use lib.Dec.{ltb}
+use lib.IntN.{ℤ, pos}
+use lib.ListN.{length, replicate}
+use Rattle.rings.specs.Table.{gather}
+use Rattle.rings.specs.declared.Refusal.the-variants.{NoRoom}
+use Rattle.rings.specs.declared.Amount.{Amount}
+use Rattle.rings.specs.declared.Amount.the-variants as amount
+use Rattle.rings.specs.declared.Amount.the-variants.{Of}
+use Rattle.rings.specs.declared.Counted.{Counted}
+use Rattle.rings.specs.declared.Counted.the-variants as counted
+use Rattle.rings.specs.declared.Counted.the-variants.{Counts}
+use Rattle.refine.specs.Refinement.{refineAnswer, refineValences, refinePositions}
+use Rattle.meshfile.specs.Read.{readAnswer, readValences, readRings, readPositions}
+use Rattle.listing_text.specs.Lines.{countsLine, vertexLine, refusedLine}
+
+-- level 1 behind n control vertices, where refinement answers so and leaves these tables
+unfoldable pub levelText : ℕ → List ℕ → List ℤ → Counted → List ℕ
+levelText n vs ps (Counts v e f) = countsLine 1 v e f ++ gather (vertexLine vs ps n) v
+levelText n vs ps (counted.Refused r) = refusedLine r
+
+-- the same, where n control vertices are refined in these tables
+abbrev pub refinedText : ℕ → List ℕ → List ℕ → List ℤ → List ℕ
+refinedText n vs rs ps = levelText n (refineValences n 1 vs rs ps) (refinePositions n 1 vs rs ps) (refineAnswer n 1 vs rs ps)
+
+-- the same, where reading answers so and leaves these tables
+unfoldable pub meshText : List ℕ → List ℕ → List ℤ → Amount → List ℕ
+meshText vs rs ps (Of n) = refinedText n vs rs ps
+meshText vs rs ps (amount.Refused r) = refusedLine r
+
+-- the same, where the file is read into these tables
+unfoldable pub fileText : List ℕ → List ℕ → List ℕ → List ℤ → List ℕ
+fileText s vs rs ps = meshText (readValences s vs rs ps) (readRings s vs rs ps) (readPositions s vs rs ps) (readAnswer s vs rs ps)
+
+-- an input over 16,384 bytes counts as reason 10, place 0
+unfoldable pub listingText : List ℕ → List ℕ
+listingText s = cond (ltb 16384 (length s)) (refusedLine NoRoom) (fileText s (replicate 256 0) (replicate 8192 0) (replicate 768 (pos 0)))

@@ -1,0 +1,73 @@
+// The text of the listing program: what it prints for an input.
+ghost use mathlib.Core.Path.{_≡_};
+ghost use Prim.Native.Nat.{_≤_};
+ghost use lib.ListN.{length};
+ghost use Rattle.rings.specs.Table.{put};
+ghost use Rattle.listing_text.specs.Listing.{refinedText, fileText, listingText};
+ghost use Rattle.listing_text.specs.Wrote.{Wrote};
+use lines::LEVEL;
+use lines::put_level;
+use lines::put_refused;
+use meshfile::reading::read;
+use refine::refine;
+use rings::Amount;
+use rings::Counted;
+use rings::Refusal;
+
+pub mod lines;
+pub mod numbers;
+
+// The most bytes of an input.
+pub const MOST_BYTES: usize = 16384;
+
+// Refines the control mesh one level, and writes that level or why it is refused.
+fn put_refined(
+    text: &mut [u8],
+    valences: &mut [u16],
+    rings: &mut [u16],
+    positions: &mut [i32],
+    count: usize,
+) -> usize
+    requires { ⌜ 32768 ≤ length (now text) ⌝ }
+    requires { ⌜ length (now valences) ≤ 256 ⌝ }
+    ensures { λ r. ⌜ Wrote (now (text .entry)) 0 (refinedText count (now (valences .entry)) (now (rings .entry)) (now (positions .entry))) (now (text .exit)) r 32768 ⌝ }
+{
+    match refine(valences, rings, positions, count, LEVEL) {
+        Counted::Refused(r) => put_refused(text, r),
+        Counted::Counts { v, e, f } => put_level(text, valences, positions, count, v, e, f),
+    }
+}
+
+// Reads the input into the tables, and writes its level 1 or why it is refused.
+fn put_read(
+    text: &mut [u8],
+    input: &[u8],
+    valences: &mut [u16],
+    rings: &mut [u16],
+    positions: &mut [i32],
+) -> usize
+    requires { ⌜ 32768 ≤ length (now text) ⌝ }
+    requires { ⌜ length (now valences) ≤ 256 ⌝ }
+    ensures { λ r. ⌜ Wrote (now (text .entry)) 0 (fileText (now (input .entry)) (now (valences .entry)) (now (rings .entry)) (now (positions .entry))) (now (text .exit)) r 32768 ⌝ }
+{
+    match read(input, valences, rings, positions) {
+        Amount::Refused(r) => put_refused(text, r),
+        Amount::Of(count) => put_refined(text, valences, rings, positions, count),
+    }
+}
+
+// Writes the whole text at the start of `text`, and answers how many bytes it has.
+pub fn listing(input: &[u8], text: &mut [u8]) -> usize
+    requires { ⌜ 32768 ≤ length (now text) ⌝ }
+    ensures { λ r. ⌜ now (text .exit) ≡ put (now (text .entry)) 0 (listingText (now (input .entry))) ⌝ }
+    ensures { λ r. ⌜ r ≡ length (listingText (now (input .entry))) ⌝ }
+    ensures { λ r. ⌜ r ≤ 32768 ⌝ }
+{
+    if MOST_BYTES < input.len() {
+        return put_refused(text, Refusal::NoRoom);
+    }
+    let mut valences = [0u16; 256];
+    let mut rings = [0u16; 8192];
+    let mut positions = [0i32; 768];
+    put_read(text, input, &mut valences, &mut rings, &mut positions)
+}
