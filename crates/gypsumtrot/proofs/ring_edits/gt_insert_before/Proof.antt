@@ -1,0 +1,26 @@
+-- `gt_insert_before` meets its contract. Assumes nothing.
+use borrow.Author.Needs.{needs}
+use Rattle.gypsumtrot.proofs.ring_edits.gt_insert_before.Statement.{statement}
+use Rattle.gypsumtrot.proofs.ring_edits.gt_insert_before.Tie as tie
+use Rattle.rings.specs.Paper.{paperVerdict}
+use Rattle.gypsumtrot.proofs.Crossed.{through}
+
+insert-before-requires : tie.Need-insert-before-requires
+insert-before-requires c κs = search needs
+
+of-verdict-requires : tie.Need-of-verdict-requires
+of-verdict-requires c κs = search needs
+
+same-length : tie.Need-same-length
+same-length c = search needs
+
+same-length-2 : tie.Need-same-length-2
+same-length-2 c = search needs
+
+returns : tie.Need-returns
+returns c = let e = c .before .before .before .before .before .insert-before .ensures in (through paperVerdict (c .of-verdict .ensures) (e .0), (e .1 .1, e .1 .0))
+
+pub gt-insert-before-spec : {M : Type 1} → statement M
+gt-insert-before-spec =
+    tie.close
+    (tie.spec insert-before-requires of-verdict-requires same-length same-length-2 returns)

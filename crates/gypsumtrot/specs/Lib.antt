@@ -1,0 +1,3 @@
+-- What crosses the C interface.
+pub mod Crossing
+pub mod Records

@@ -1,0 +1,41 @@
+// Reading and writing a mesh file.
+ghost use mathlib.Core.Path.{_≡_};
+ghost use Rattle.rings.specs.Paper.{paperAmount};
+ghost use Rattle.meshfile.specs.Read.{readAnswer, readValences, readRings, readPositions};
+ghost use Rattle.meshfile.specs.Write.{writeAnswer, writeRoom};
+ghost use Rattle.gypsumtrot.specs.Crossing.{valuePaper};
+use super::ValueAnswer;
+use super::answers::of_amount;
+use meshfile::reading::read;
+use meshfile::writing::write;
+
+// Reads a mesh file into the tables.
+#[no_mangle]
+pub extern "C" fn gt_read(
+    bytes: &[u8],
+    valences: &mut [u16],
+    rings: &mut [u16],
+    positions: &mut [i32],
+) -> ValueAnswer
+    ensures { λ r. ⌜ valuePaper r ≡ paperAmount (readAnswer (now (bytes .entry)) (now (valences .entry)) (now (rings .entry)) (now (positions .entry))) ⌝ }
+    ensures { λ _. ⌜ now (valences .exit) ≡ readValences (now (bytes .entry)) (now (valences .entry)) (now (rings .entry)) (now (positions .entry)) ⌝ }
+    ensures { λ _. ⌜ now (rings .exit) ≡ readRings (now (bytes .entry)) (now (valences .entry)) (now (rings .entry)) (now (positions .entry)) ⌝ }
+    ensures { λ _. ⌜ now (positions .exit) ≡ readPositions (now (bytes .entry)) (now (valences .entry)) (now (rings .entry)) (now (positions .entry)) ⌝ }
+{
+    of_amount(read(bytes, valences, rings, positions))
+}
+
+// Writes the control mesh as a mesh file.
+#[no_mangle]
+pub extern "C" fn gt_write(
+    valences: &[u16],
+    rings: &[u16],
+    positions: &[i32],
+    count: usize,
+    file: &mut [u8],
+) -> ValueAnswer
+    ensures { λ r. ⌜ valuePaper r ≡ paperAmount (writeAnswer count (now (valences .entry)) (now (rings .entry)) (now (positions .entry)) (now (file .entry))) ⌝ }
+    ensures { λ _. ⌜ now (file .exit) ≡ writeRoom count (now (valences .entry)) (now (rings .entry)) (now (positions .entry)) (now (file .entry)) ⌝ }
+{
+    of_amount(write(valences, rings, positions, count, file))
+}

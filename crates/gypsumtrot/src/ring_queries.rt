@@ -1,0 +1,64 @@
+// The queries of a vertex's ring.
+ghost use mathlib.Core.Path.{_≡_};
+ghost use Rattle.rings.specs.Paper.{paperAmount};
+ghost use Rattle.ring_calls.specs.Paper.{paperAnswer, paperNeighbour};
+ghost use Rattle.ring_calls.specs.Queries.{valenceAnswer, containsAnswer, nextAnswer, prevAnswer};
+ghost use Rattle.gypsumtrot.specs.Crossing.{valuePaper};
+use super::ValueAnswer;
+use super::answers::of_amount;
+use super::answers::of_answer;
+use super::answers::of_neighbour;
+use ring_calls::queries::contains;
+use ring_calls::queries::next;
+use ring_calls::queries::prev;
+use ring_calls::queries::valence;
+
+// The valence of v.
+#[no_mangle]
+pub extern "C" fn gt_valence(valences: &[u16], rings: &[u16], count: usize, v: usize) -> ValueAnswer
+    ensures { λ r. ⌜ valuePaper r ≡ paperAmount (valenceAnswer count (now (valences .entry)) (now (rings .entry)) v) ⌝ }
+{
+    of_amount(valence(valences, rings, count, v))
+}
+
+// Is x in the ring of v?
+#[no_mangle]
+pub extern "C" fn gt_contains(
+    valences: &[u16],
+    rings: &[u16],
+    count: usize,
+    v: usize,
+    x: usize,
+) -> ValueAnswer
+    ensures { λ r. ⌜ valuePaper r ≡ paperAnswer (containsAnswer count (now (valences .entry)) (now (rings .entry)) v x) ⌝ }
+{
+    of_answer(contains(valences, rings, count, v, x))
+}
+
+// The vertex after x in the ring of v.
+#[no_mangle]
+pub extern "C" fn gt_next(
+    valences: &[u16],
+    rings: &[u16],
+    count: usize,
+    v: usize,
+    x: usize,
+) -> ValueAnswer
+    ensures { λ r. ⌜ valuePaper r ≡ paperNeighbour (nextAnswer count (now (valences .entry)) (now (rings .entry)) v x) ⌝ }
+{
+    of_neighbour(next(valences, rings, count, v, x))
+}
+
+// The vertex before x in the ring of v.
+#[no_mangle]
+pub extern "C" fn gt_prev(
+    valences: &[u16],
+    rings: &[u16],
+    count: usize,
+    v: usize,
+    x: usize,
+) -> ValueAnswer
+    ensures { λ r. ⌜ valuePaper r ≡ paperNeighbour (prevAnswer count (now (valences .entry)) (now (rings .entry)) v x) ⌝ }
+{
+    of_neighbour(prev(valences, rings, count, v, x))
+}
