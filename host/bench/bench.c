@@ -1,0 +1,90 @@
+/* Does one operation of the library a number of times on one mesh, so that its instructions can be counted: those of a
+ * run with repetitions less those of one with none.
+ *
+ *   bench MESH LEVELS OPERATION REPETITIONS
+ *
+ * MESH is sphere:V, torus:AxB, or wild:V (valences up to 32); OPERATION is check, refine, drag, list, read, write.
+ * Prints the number of vertices of the stack. */
+#include <stdio.h>
+#include <stdlib.h>
+#include "../meshes.h"
+
+static control_mesh control;
+static uint16_t *valences, *rings;
+static int32_t *positions;
+static uint32_t *map;
+static uint8_t *file;
+static gt_move moves[GT_MOST_MOVES];
+static size_t rows, words, file_length, levels;
+
+static void need(int condition, const char *what) {
+    if (condition) return;
+    fprintf(stderr, "bench: %s\n", what);
+    exit(2);
+}
+
+static void make_mesh(const char *name) {
+    uint64_t state = 12345;
+    size_t a, b;
+    if (sscanf(name, "sphere:%zu", &a) == 1) mesh_sphere(&control, &state, a);
+    else if (sscanf(name, "torus:%zux%zu", &a, &b) == 2) mesh_torus(&control, a, b);
+    else if (sscanf(name, "wild:%zu", &a) == 1) {
+        mesh_sphere(&control, &state, a);
+        mesh_flip_random(&control, &state, 20 * a, GT_RING_PLACES);
+    } else need(0, "no such mesh");
+    mesh_random_positions(&control, &state, GT_GREATEST_COORDINATE);
+}
+
+static size_t stack_rows(void) {
+    size_t ends = 0, count = control.count, total = control.count;
+    for (size_t v = 0; v < control.count; v++) ends += control.valences[v];
+    for (size_t k = 0, edges = ends / 2; k < levels; k++, edges *= 4) total += count += edges;
+    return total;
+}
+
+static void prepare(void) {
+    uint64_t state = 999;
+    rows = stack_rows(), words = (rows + 31) / 32;
+    valences = calloc(rows, sizeof *valences), rings = calloc(GT_RING_PLACES * rows, sizeof *rings);
+    positions = calloc(3 * rows, sizeof *positions), map = calloc(words, sizeof *map);
+    file = calloc(1, 14 + 84 * control.count);
+    need(valences && rings && positions && map && file, "no memory");
+    for (size_t v = 0; v < control.count; v++) valences[v] = control.valences[v];
+    for (size_t i = 0; i < GT_RING_PLACES * control.count; i++) rings[i] = control.rings[i];
+    for (size_t i = 0; i < 3 * control.count; i++) positions[i] = control.positions[i];
+    need(gt_refine(valences, rows, rings, GT_RING_PLACES * rows, positions, 3 * rows, control.count, levels).number == 0,
+         "refinement refused");
+    file_length = gt_write(valences, rows, rings, GT_RING_PLACES * rows, positions, 3 * rows, control.count, file,
+                           14 + 84 * control.count).value;
+    for (size_t i = 0; i < GT_MOST_MOVES; i++) {
+        moves[i].vertex = (uint32_t)(i * control.count / GT_MOST_MOVES);
+        moves[i].kind = (uint32_t)(i % 3);
+        moves[i].x = (double)random_below(&state, 1000) / 1000;
+        moves[i].y = moves[i].z = 0.5;
+        if (moves[i].kind == GT_SHIFT) moves[i].x = moves[i].y = moves[i].z = 0;
+    }
+}
+
+static int operate(char operation) {
+    size_t ring_places = GT_RING_PLACES * rows, coordinates = 3 * rows, v = control.count;
+    switch (operation) {
+    case 'c': return gt_check(valences, rows, rings, ring_places, positions, coordinates, v).number == 0;
+    case 'f': return gt_refine(valences, rows, rings, ring_places, positions, coordinates, v, levels).number == 0;
+    case 'd': return gt_moves(valences, rows, rings, ring_places, positions, coordinates, map, words, v, levels, moves, 1).number == 0;
+    case 'l': return gt_moves(valences, rows, rings, ring_places, positions, coordinates, map, words, v, levels, moves, 64).number == 0;
+    case 'r': return gt_read(file, file_length, valences, rows, rings, ring_places, positions, coordinates).number == 0;
+    case 'w': return gt_write(valences, rows, rings, ring_places, positions, coordinates, v, file, file_length).number == 0;
+    default: return 0;
+    }
+}
+
+int main(int argc, char **argv) {
+    need(argc == 5, "bench MESH LEVELS OPERATION REPETITIONS");
+    make_mesh(argv[1]);
+    levels = (size_t)atoi(argv[2]);
+    prepare();
+    char operation = strcmp(argv[3], "refine") == 0 ? 'f' : argv[3][0];
+    for (int i = atoi(argv[4]); i > 0; i--) need(operate(operation), "an operation was refused");
+    printf("%zu\n", rows);
+    return 0;
+}

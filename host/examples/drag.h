@@ -1,0 +1,119 @@
+/* What the examples share: a mesh file and a list of moves, read; a stack, refined as deep as it goes. */
+#ifndef DRAG_H
+#define DRAG_H
+
+#include <stdio.h>
+#include <stdlib.h>
+#include <string.h>
+#include "gypsumtrot.h"
+
+/* A stack in tables of just the right size, and where its levels lie. */
+typedef struct {
+    size_t levels, rows, words;
+    size_t start[GT_MOST_LEVELS + 1], count[GT_MOST_LEVELS + 1];
+    uint16_t *valences, *rings;
+    int32_t *positions;
+    uint32_t *map;
+} drag_stack;
+
+static inline void drag_stop(const char *what, uint32_t number, size_t place) {
+    fprintf(stderr, "%s: refused %u %zu\n", what, number, place);
+    exit(1);
+}
+
+static inline void *drag_room(size_t items, size_t size) {
+    void *room = calloc(items ? items : 1, size);
+    if (!room) {
+        perror("memory");
+        exit(1);
+    }
+    return room;
+}
+
+static inline uint8_t *drag_bytes(const char *path, size_t *length) {
+    FILE *file = fopen(path, "rb");
+    if (!file) {
+        perror(path);
+        exit(1);
+    }
+    size_t most = 14 + 84 * (size_t)GT_MOST_VERTICES + 1;
+    uint8_t *bytes = drag_room(most, 1);
+    *length = fread(bytes, 1, most, file);
+    fclose(file);
+    return bytes;
+}
+
+/* Lays out as many levels as fit, at most `wanted`, above a checked control mesh; makes room for them in the tables. */
+static inline void drag_layout(drag_stack *s, gt_counts control, size_t wanted) {
+    size_t edges = control.e;
+    s->count[0] = s->rows = control.v;
+    s->start[0] = 0;
+    for (s->levels = 0; s->levels < wanted; s->levels++, edges *= 4) {
+        size_t count = s->count[s->levels] + edges;
+        if (count > GT_MOST_LEVEL_VERTICES) break;
+        s->start[s->levels + 1] = s->rows;
+        s->count[s->levels + 1] = count;
+        s->rows += count;
+    }
+    s->words = (s->rows + 31) / 32;
+}
+
+/* Reads a mesh file, checks it, and refines it at most `wanted` times. */
+static inline void drag_open(drag_stack *s, const char *path, size_t wanted) {
+    static uint16_t valences[GT_MOST_VERTICES], rings[GT_RING_PLACES * GT_MOST_VERTICES];
+    static int32_t positions[3 * GT_MOST_VERTICES];
+    size_t length, most = GT_MOST_VERTICES;
+    uint8_t *bytes = drag_bytes(path, &length);
+    gt_value read = gt_read(bytes, length, valences, most, rings, GT_RING_PLACES * most, positions, 3 * most);
+    if (read.number) drag_stop(path, read.number, read.place);
+    gt_counts control = gt_check(valences, most, rings, GT_RING_PLACES * most, positions, 3 * most, read.value);
+    if (control.number) drag_stop(path, control.number, control.place);
+    drag_layout(s, control, wanted);
+    s->valences = drag_room(s->rows, sizeof *s->valences);
+    s->rings = drag_room(GT_RING_PLACES * s->rows, sizeof *s->rings);
+    s->positions = drag_room(3 * s->rows, sizeof *s->positions);
+    s->map = drag_room(s->words, sizeof *s->map);
+    memcpy(s->valences, valences, control.v * sizeof *valences);
+    memcpy(s->rings, rings, GT_RING_PLACES * control.v * sizeof *rings);
+    memcpy(s->positions, positions, 3 * control.v * sizeof *positions);
+    gt_counts last = gt_refine(s->valences, s->rows, s->rings, GT_RING_PLACES * s->rows, s->positions, 3 * s->rows,
+                               control.v, s->levels);
+    if (last.number) drag_stop("refining", last.number, last.place);
+    free(bytes);
+}
+
+/* Reads moves, one a line: place, shift or stretch, then the vertex and three numbers. Without a file, vertex 0 is
+ * shifted by a millimetre. */
+static inline size_t drag_moves(gt_move *moves, const char *path) {
+    static const char *const kinds[3] = {"place", "shift", "stretch"};
+    char word[8];
+    size_t length = 0;
+    gt_move move = {0, GT_SHIFT, 1.0, 0.0, 0.0};
+    if (!path) {
+        moves[0] = move;
+        return 1;
+    }
+    FILE *file = fopen(path, "r");
+    if (!file) {
+        perror(path);
+        exit(1);
+    }
+    while (length < GT_MOST_MOVES && fscanf(file, "%7s %u %lf %lf %lf", word, &move.vertex, &move.x, &move.y, &move.z) == 5) {
+        for (move.kind = 0; move.kind < 3 && strcmp(word, kinds[move.kind]) != 0; move.kind++) continue;
+        moves[length++] = move;
+    }
+    fclose(file);
+    return length;
+}
+
+/* Moves the points; answers how many are touched. */
+static inline size_t drag_apply(drag_stack *s, const gt_move *moves, size_t length) {
+    gt_value touched = gt_moves(s->valences, s->rows, s->rings, GT_RING_PLACES * s->rows, s->positions, 3 * s->rows,
+                                s->map, s->words, s->count[0], s->levels, moves, length);
+    if (touched.number) drag_stop("moving", touched.number, touched.place);
+    return touched.value;
+}
+
+static inline int drag_touched(const drag_stack *s, size_t i) { return s->map[i / 32] >> i % 32 & 1; }
+
+#endif

@@ -1,0 +1,586 @@
+/* Tries every call on random tables, sizes, arguments and bytes, from a fixed seed.
+ *
+ *   fuzz [SEED [ROUNDS]]
+ *
+ * Held in every round: nothing outside a lent table is touched; tables that are only read stay; a refusal changes
+ * nothing and answers no counts; edits change one row; what is read can be written back; an accepted move list touches
+ * exactly the points that the definition says, leaves the others, and its stack equals a fresh refinement. Beside all
+ * that, the plain implementation is asked the same on copies of the tables, and must answer and leave the same. */
+#include "guard.h"
+#include "gypsumtrot.h"
+#include "meshes.h"
+
+static uint64_t state;
+static size_t calls, accepted_calls, rounds_done;
+static guarded valences, rings, positions, map, bytes, list, moves;
+static size_t valences_length, rings_length, positions_length, map_length;
+
+static void fail(const char *what) {
+    printf("fuzz: round %zu: %s\n", rounds_done, what);
+    exit(1);
+}
+
+extern __typeof__(gt_check) twin_check;
+extern __typeof__(gt_refine) twin_refine;
+extern __typeof__(gt_moves) twin_moves;
+extern __typeof__(gt_read) twin_read;
+extern __typeof__(gt_write) twin_write;
+extern __typeof__(gt_make) twin_make;
+extern __typeof__(gt_erase) twin_erase;
+extern __typeof__(gt_replace) twin_replace, twin_insert_after, twin_insert_before;
+extern __typeof__(gt_contains) twin_contains, twin_next, twin_prev;
+extern __typeof__(gt_valence) twin_valence;
+
+#define HOLD(condition) ((condition) ? (void)0 : fail(#condition))
+
+static size_t below(size_t n) { return random_below(&state, n); }
+
+static void *lend(guarded *g, const void *contents, size_t size) {
+    int at_end = (int)below(2), null_if_empty = (int)below(2);
+    return guard_lend(g, contents, size, at_end, null_if_empty);
+}
+
+/* Lends a table of random bits or of small numbers. */
+static void *lend_noise(guarded *g, size_t item, size_t length) {
+    size_t size = item * length, small = below(3);
+    unsigned char *noise = calloc(size + 8, 1);
+    for (size_t i = 0; i < size; i += small ? item : 8) {
+        uint64_t bits = random_bits(&state);
+        if (small) noise[i] = bits % 8;
+        else memcpy(noise + i, &bits, 8);
+    }
+    void *table = lend(g, noise, size);
+    free(noise);
+    return table;
+}
+
+static void lend_noise_tables(void) {
+    size_t rows = below(12);
+    valences_length = rows + below(2);
+    rings_length = GT_RING_PLACES * rows + below(2) * below(40);
+    positions_length = 3 * rows + below(3);
+    map_length = below(20);
+    lend_noise(&valences, 2, valences_length);
+    lend_noise(&rings, 2, rings_length);
+    lend_noise(&positions, 4, positions_length);
+    lend_noise(&map, 4, map_length);
+}
+
+/* Lends a control mesh with room for so many rows in all; what lies behind the mesh is noise. */
+static void lend_mesh(const control_mesh *m, size_t rows, size_t words) {
+    valences_length = rows, rings_length = GT_RING_PLACES * rows, positions_length = 3 * rows, map_length = words;
+    lend_noise(&valences, 2, valences_length);
+    lend_noise(&rings, 2, rings_length);
+    lend_noise(&positions, 4, positions_length);
+    lend_noise(&map, 4, map_length);
+    memcpy(valences.begin, m->valences, 2 * m->count);
+    memcpy(rings.begin, m->rings, 2 * GT_RING_PLACES * m->count);
+    memcpy(positions.begin, m->positions, 12 * m->count);
+}
+
+static void remember(guarded *g) { memcpy(g->was, g->begin, g->bytes); }
+
+static void remember_tables(void) {
+    remember(&valences), remember(&rings), remember(&positions), remember(&map);
+}
+
+static int tables_unchanged(void) {
+    return guard_unchanged(&valences) && guard_unchanged(&rings) && guard_unchanged(&positions) && guard_unchanged(&map);
+}
+
+/* After every call: the memory beside the tables stays, and a refusal leaves all as it was. */
+static void hold_call(uint32_t number, size_t place, int any_count) {
+    calls++;
+    accepted_calls += number == 0;
+    HOLD(guard_intact(&valences) && guard_intact(&rings) && guard_intact(&positions) && guard_intact(&map));
+    HOLD(number <= 17 || number == GT_UNKNOWN_KIND);
+    if (number == 0) HOLD(place == 0);
+    else HOLD(tables_unchanged() && !any_count);
+}
+
+static void hold_value(gt_value answer) { hold_call(answer.number, answer.place, answer.value != 0); }
+static void hold_counts(gt_counts answer) { hold_call(answer.number, answer.place, answer.v || answer.e || answer.f); }
+
+/* The tables as a call gets them: the guarded ones, or copies for the twin. */
+typedef struct {
+    uint16_t *valences, *rings;
+    int32_t *positions;
+    uint32_t *map;
+    uint8_t *bytes;
+} tables;
+
+static tables lent;
+
+#define VALENCES lent.valences, valences_length
+#define RINGS lent.rings, rings_length
+#define POSITIONS lent.positions, positions_length
+#define MAP lent.map, map_length
+
+static tables originals(void) {
+    tables t = {(uint16_t *)valences.table, (uint16_t *)rings.table, (int32_t *)positions.table, (uint32_t *)map.table,
+                bytes.table};
+    return t;
+}
+
+static void *copy(const guarded *g) {
+    void *same = malloc(g->bytes + 1);
+    if (g->bytes) memcpy(same, g->begin, g->bytes);
+    return same;
+}
+
+static tables copies(void) {
+    tables t = {copy(&valences), copy(&rings), copy(&positions), copy(&map), copy(&bytes)};
+    return t;
+}
+
+static int same(const guarded *g, const void *other) { return g->bytes == 0 || memcmp(g->begin, other, g->bytes) == 0; }
+
+/* Compares the tables with the copies in which the twin has worked, and gives these back. */
+static void hold_copies(tables t) {
+    HOLD(same(&valences, t.valences) && same(&rings, t.rings) && same(&positions, t.positions));
+    HOLD(same(&map, t.map) && same(&bytes, t.bytes));
+    free(t.valences), free(t.rings), free(t.positions), free(t.map), free(t.bytes);
+}
+
+/* Asks the twin and the library the same, and compares what they answer and what they leave. */
+#define ASK(answer, call, ...) do { \
+        tables copied = lent = copies(); \
+        __typeof__(answer) twin = twin_##call(__VA_ARGS__); \
+        lent = originals(); \
+        answer = gt_##call(__VA_ARGS__); \
+        hold_copies(copied); \
+        HOLD(same_answer(&answer, &twin, sizeof answer)); \
+    } while (0)
+
+/* Answers are compared word by word; the padding behind the number is left out. */
+static int same_answer(const void *one, const void *other, size_t size) {
+    const size_t *a = one, *b = other;
+    size_t differ = (uint32_t)a[0] != (uint32_t)b[0];
+    for (size_t i = 1; i < size / sizeof *a; i++) differ |= a[i] != b[i];
+    return !differ;
+}
+
+/* A number that is often right: below n, n itself, or anything. */
+static size_t around(size_t n) {
+    switch (below(12)) {
+    case 0: return n;
+    case 1: return n + 65536;
+    case 2: return (size_t)random_bits(&state);
+    case 3: return 65535;
+    default: return n ? below(n) : 0;
+    }
+}
+
+/* Do the tables differ from what was lent in no row but v's? */
+static int other_rows_unchanged(size_t v) {
+    const uint16_t *now = (const uint16_t *)rings.begin, *was = (const uint16_t *)rings.was;
+    for (size_t i = 0; i < rings_length; i++)
+        if (now[i] != was[i] && i / GT_RING_PLACES != v) return 0;
+    now = (const uint16_t *)valences.begin, was = (const uint16_t *)valences.was;
+    for (size_t i = 0; i < valences_length; i++)
+        if (now[i] != was[i] && i != v) return 0;
+    return 1;
+}
+
+/* Is the row of v as an edit leaves it: proper, with 65,535 behind its ring? */
+static int row_in_order(size_t count, size_t v) {
+    const uint16_t *row = (const uint16_t *)rings.begin + GT_RING_PLACES * v;
+    size_t valence = ((const uint16_t *)valences.begin)[v];
+    for (size_t i = 0; i < GT_RING_PLACES; i++) {
+        if (i >= valence && row[i] != GT_NULL_VERTEX) return 0;
+        if (i < valence && (row[i] >= count || row[i] == v)) return 0;
+        for (size_t k = 0; i < valence && k < i; k++)
+            if (row[i] == row[k]) return 0;
+    }
+    return valence <= GT_RING_PLACES;
+}
+
+static void hold_edit(gt_value answer, size_t count, size_t v) {
+    hold_value(answer);
+    HOLD(answer.value == 0);
+    if (answer.number) return;
+    HOLD(other_rows_unchanged(v));
+    HOLD((guard_unchanged(&valences) && guard_unchanged(&rings)) || row_in_order(count, v));
+    remember_tables();
+}
+
+static void try_queries(size_t count, size_t v, size_t x) {
+    gt_value there, valence, next, prev, back;
+    ASK(there, contains, VALENCES, RINGS, count, v, x);
+    ASK(valence, valence, VALENCES, RINGS, count, v);
+    ASK(next, next, VALENCES, RINGS, count, v, x);
+    ASK(prev, prev, VALENCES, RINGS, count, v, x);
+    hold_value(there), hold_value(valence);
+    hold_call(next.number, next.place, next.value != GT_NULL_VERTEX);
+    hold_call(prev.number, prev.place, prev.value != GT_NULL_VERTEX);
+    HOLD(tables_unchanged());
+    HOLD(there.number == valence.number && there.number == next.number && there.number == prev.number);
+    HOLD(there.place == valence.place && there.place == next.place && there.place == prev.place);
+    if (there.number) return;
+    HOLD(there.value <= 1 && (there.value == 1) == (next.value != GT_NULL_VERTEX));
+    HOLD((there.value == 1) == (prev.value != GT_NULL_VERTEX));
+    if (!there.value) return;
+    ASK(back, prev, VALENCES, RINGS, count, v, next.value);
+    HOLD(back.value == x);
+    ASK(back, next, VALENCES, RINGS, count, v, prev.value);
+    HOLD(back.value == x);
+    HOLD(valence.value > 1 ? next.value != x : next.value == x);
+}
+
+static void try_edits(size_t count) {
+    size_t v = around(count), a = around(count), x = around(count), length = below(3) ? below(6) : below(40);
+    gt_value answer;
+    try_queries(count, v, x);
+    lend_noise(&list, 2, length);
+    switch (below(5)) {
+    case 0: ASK(answer, make, VALENCES, RINGS, count, v, (const uint16_t *)list.table, length); break;
+    case 1: ASK(answer, erase, VALENCES, RINGS, count, v, x); break;
+    case 2: ASK(answer, replace, VALENCES, RINGS, count, v, a, x); break;
+    case 3: ASK(answer, insert_after, VALENCES, RINGS, count, v, a, x); break;
+    default: ASK(answer, insert_before, VALENCES, RINGS, count, v, a, x);
+    }
+    hold_edit(answer, count, v);
+    HOLD(guard_unchanged(&list) && guard_intact(&list));
+    try_queries(count, v, x);
+}
+
+static double edge_number(void) {
+    static const double edges[] = {1024.0, 1024.0000000000002, 1023.9999999999999, 0.00048828125, 0.0, 1e308, 5e-324, 1e-14, 2.0};
+    double number = edges[below(sizeof edges / sizeof *edges)];
+    if (below(12) == 0) number = 1e308 * 10;
+    if (below(12) == 0) number -= number;
+    return below(2) ? number : -number;
+}
+
+/* Fills a list of moves; `wild` ones may hold any numbers at all. */
+static void lend_moves(size_t count, size_t length, int wild) {
+    gt_move *all = calloc(length + 1, sizeof *all);
+    for (size_t i = 0; i < length; i++) {
+        double numbers[3];
+        int odd = wild && below(12) == 0;
+        all[i].vertex = (uint32_t)(odd && below(2) ? around(count) : count ? below(count) : 0);
+        all[i].kind = (uint32_t)(odd && below(2) ? around(3) : below(3));
+        for (size_t c = 0; c < 3; c++) {
+            uint64_t bits = random_bits(&state);
+            double part = (double)(int64_t)bits / 9223372036854775808.0;
+            numbers[c] = all[i].kind == GT_PLACE ? 1024 * part : all[i].kind == GT_SHIFT ? part / 64 : part;
+            if (below(8) == 0) numbers[c] = (double)(int64_t)below(4096) / 2048 - 1;
+            if (odd && below(3) == 0) memcpy(&numbers[c], &bits, 8);
+            if (odd && below(3) == 0) numbers[c] = edge_number();
+        }
+        all[i].x = numbers[0], all[i].y = numbers[1], all[i].z = numbers[2];
+    }
+    lend(&moves, all, length * sizeof *all);
+    free(all);
+}
+
+static gt_value call_moves(size_t count, size_t levels, size_t length) {
+    gt_value answer;
+    ASK(answer, moves, VALENCES, RINGS, POSITIONS, MAP, count, levels, (const gt_move *)moves.table, length);
+    hold_value(answer);
+    HOLD(guard_unchanged(&moves) && guard_intact(&moves) && guard_unchanged(&valences) && guard_unchanged(&rings));
+    return answer;
+}
+
+static gt_counts call_check(size_t count) {
+    gt_counts answer;
+    ASK(answer, check, VALENCES, RINGS, POSITIONS, count);
+    hold_counts(answer);
+    HOLD(tables_unchanged());
+    return answer;
+}
+
+static gt_counts call_refine(size_t count, size_t levels) {
+    gt_counts answer;
+    ASK(answer, refine, VALENCES, RINGS, POSITIONS, count, levels);
+    hold_counts(answer);
+    return answer;
+}
+
+static gt_value call_read(size_t length) {
+    gt_value answer;
+    ASK(answer, read, lent.bytes, length, VALENCES, RINGS, POSITIONS);
+    hold_value(answer);
+    HOLD(guard_unchanged(&bytes) && guard_intact(&bytes));
+    return answer;
+}
+
+static gt_value call_write(size_t count, size_t length) {
+    gt_value answer;
+    ASK(answer, write, VALENCES, RINGS, POSITIONS, count, lent.bytes, length);
+    hold_value(answer);
+    HOLD(tables_unchanged() && guard_intact(&bytes) && (answer.number == 0 || guard_unchanged(&bytes)));
+    return answer;
+}
+
+/* Everything on tables of noise. */
+static void try_noise(void) {
+    lend_noise_tables();
+    size_t rows = valences_length, count = below(4) ? rows : below(2) ? around(rows) : 1023 + below(4), levels = below(7), length = below(10);
+    for (size_t i = 0; i < 4; i++) try_edits(count);
+    call_check(count);
+    lend_moves(count, length, 1);
+    call_moves(count, levels, length);
+    remember_tables();
+    call_refine(count, levels);
+    remember_tables();
+    length = below(400);
+    lend_noise(&bytes, 1, length);
+    call_read(length);
+    remember_tables();
+    call_write(count, length);
+}
+
+static void random_mesh(control_mesh *m) {
+    size_t across = 3 + below(4), along = 3 + below(4);
+    switch (below(4)) {
+    case 0: mesh_double_cone(m, 3 + below(30)); break;
+    case 1: mesh_torus(m, across, along); break;
+    default: mesh_sphere(m, &state, 4 + below(24));
+    }
+    mesh_flip_random(m, &state, below(3) ? 4 * m->count : 0, 32);
+    mesh_random_positions(m, &state, below(3) ? GT_GREATEST_COORDINATE : 5);
+}
+
+/* A mesh's file, written, read back, cut and changed. */
+static void try_file(const control_mesh *m) {
+    size_t length = 14 + 20 * m->count, place;
+    for (size_t v = 0; v < m->count; v++) length += 2 * (size_t)m->valences[v];
+    size_t room = length + below(5);
+    lend_mesh(m, m->count + below(3), 1);
+    remember_tables();
+    lend_noise(&bytes, 1, room);
+    gt_value written = call_write(m->count, room);
+    HOLD(written.number == 0 && written.value == length);
+    HOLD(memcmp(bytes.begin + length, bytes.was + length, room - length) == 0);
+    unsigned char *file = malloc(length + 1);
+    memcpy(file, bytes.begin, length);
+    lend(&bytes, file, length);
+    lend_noise(&valences, 2, valences_length), lend_noise(&rings, 2, rings_length);
+    gt_value count = call_read(length);
+    HOLD(count.number == 0 && count.value == m->count && memcmp(rings.begin, m->rings, 64 * m->count) == 0);
+    HOLD(memcmp(valences.begin, m->valences, 2 * m->count) == 0 && memcmp(positions.begin, m->positions, 12 * m->count) == 0);
+    remember_tables();
+    place = below(length);
+    lend(&bytes, file, place);
+    HOLD(call_read(place).number == GT_FILE_LAYOUT);
+    for (size_t k = 0; k < 6; k++) {
+        unsigned char was = file[place];
+        file[place] ^= (unsigned char)(1 + below(255));
+        lend(&bytes, file, length);
+        call_read(length);
+        remember_tables();
+        file[place] = was;
+        place = below(2) ? below(40) : below(length);
+    }
+    free(file);
+}
+
+/* Which points of a level are touched, from those of the level below, by definition. */
+static void touched_above(const uint16_t *valence, const uint16_t *ring, size_t count, const unsigned char *touched,
+                          const uint16_t *next_ring, size_t next_count, unsigned char *above) {
+    for (size_t v = 0; v < count; v++) {
+        above[v] = touched[v];
+        for (size_t i = 0; i < valence[v]; i++) above[v] |= touched[ring[GT_RING_PLACES * v + i]];
+    }
+    for (size_t x = count; x < next_count; x++) {
+        size_t p = next_ring[GT_RING_PLACES * x], q = next_ring[GT_RING_PLACES * x + 3], n = valence[p], i = 0;
+        const uint16_t *row = ring + GT_RING_PLACES * p;
+        while (row[i] != q) i++;
+        above[x] = touched[p] | touched[q] | touched[row[(i + 1) % n]] | touched[row[(i + n - 1) % n]];
+    }
+}
+
+/* Holds the map and the count to the definition, and the untouched points to what they were. */
+static void hold_touched(size_t count, const size_t *counts, size_t levels, size_t length, size_t answered) {
+    size_t total = 0, ones = 0;
+    for (size_t k = 0; k <= levels; k++) total += counts[k];
+    unsigned char *touched = calloc(total + 1, 1);
+    for (size_t i = 0; i < length; i++) touched[((const gt_move *)moves.begin)[i].vertex] = 1;
+    const uint16_t *valence = (const uint16_t *)valences.begin, *ring = (const uint16_t *)rings.begin;
+    unsigned char *at = touched;
+    for (size_t k = 0; k < levels; k++) {
+        touched_above(valence, ring, counts[k], at, ring + GT_RING_PLACES * counts[k], counts[k + 1], at + counts[k]);
+        valence += counts[k], ring += GT_RING_PLACES * counts[k], at += counts[k];
+    }
+    const uint32_t *words = (const uint32_t *)map.begin;
+    for (size_t i = 0; i < (total + 31) / 32 * 32; i++) {
+        size_t bit = words[i / 32] >> i % 32 & 1;
+        ones += bit;
+        HOLD(bit == (i < total ? touched[i] : 0));
+        if (i < total && !touched[i]) HOLD(memcmp(positions.begin + 12 * i, positions.was + 12 * i, 12) == 0);
+    }
+    size_t from = (total + 31) / 32 * 4;
+    HOLD(memcmp(map.begin + from, map.was + from, map.bytes - from) == 0);
+    HOLD(memcmp(positions.begin + 12 * total, positions.was + 12 * total, positions.bytes - 12 * total) == 0);
+    HOLD(ones == answered && count <= total);
+    free(touched);
+}
+
+/* The number of vertices of each level; answers the total. */
+static size_t count_levels(const control_mesh *m, size_t levels, size_t *counts) {
+    size_t ends = 0, total = m->count;
+    for (size_t v = 0; v < m->count; v++) ends += m->valences[v];
+    counts[0] = m->count;
+    for (size_t k = 1, edges = ends / 2; k <= levels; k++, edges *= 4) total += counts[k] = counts[k - 1] + edges;
+    return total;
+}
+
+/* Refines, moves, and compares with a fresh refinement of the moved control mesh. */
+static void try_moves(const control_mesh *m) {
+    size_t levels = 1 + below(m->count < 12 ? 4 : 2), counts[5];
+    size_t total = count_levels(m, levels, counts), rows = total + below(3), words = (total + 31) / 32 + below(2);
+    lend_mesh(m, rows, words);
+    gt_counts refined = call_refine(m->count, levels);
+    HOLD(refined.number == 0 && refined.v == counts[levels] && 3 * refined.f == 2 * refined.e);
+    for (size_t k = 0; k < 3; k++) {
+        size_t length = below(3) ? 1 + below(3) : below(65);
+        remember_tables();
+        lend_moves(m->count, length, below(3) == 0);
+        gt_value answer = call_moves(m->count, levels, length);
+        if (answer.number == 0) hold_touched(m->count, counts, levels, length, answer.value);
+    }
+    guarded first = valences, second = rings, third = positions;
+    memset(&valences, 0, sizeof valences), memset(&rings, 0, sizeof rings), memset(&positions, 0, sizeof positions);
+    control_mesh moved = *m;
+    memcpy(moved.positions, third.begin, 12 * m->count);
+    lend_mesh(&moved, total, 0);
+    call_refine(m->count, levels);
+    HOLD(memcmp(valences.begin, first.begin, 2 * total) == 0 && memcmp(rings.begin, second.begin, 64 * total) == 0);
+    HOLD(memcmp(positions.begin, third.begin, 12 * total) == 0);
+    guard_close(&first), guard_close(&second), guard_close(&third);
+}
+
+/* Gives vertices x and y of a level each other's numbers, everywhere in the level. */
+static void exchange(uint16_t *ring, uint16_t *valence, size_t count, size_t x, size_t y) {
+    for (size_t i = 0; i < GT_RING_PLACES; i++) {
+        uint16_t place = ring[GT_RING_PLACES * x + i];
+        ring[GT_RING_PLACES * x + i] = ring[GT_RING_PLACES * y + i], ring[GT_RING_PLACES * y + i] = place;
+    }
+    uint16_t number = valence[x];
+    valence[x] = valence[y], valence[y] = number;
+    for (size_t v = 0; v < count; v++)
+        for (size_t i = 0; i < valence[v]; i++) {
+            uint16_t *place = ring + GT_RING_PLACES * v + i;
+            *place = (uint16_t)(*place == x ? y : *place == y ? x : *place);
+        }
+}
+
+/* Alters something of stack vertex `at`; answers whether that must be refused at this very vertex. */
+static int alter(size_t at) {
+    uint16_t *valence = (uint16_t *)valences.begin + at, *row = (uint16_t *)rings.begin + GT_RING_PLACES * at;
+    int32_t *point = (int32_t *)positions.begin + 3 * at;
+    size_t c = below(3), some = below(1000), inside = below(2097153);
+    uint16_t change = (uint16_t)(1 + below(below(2) ? 4 : 65535));
+    switch (below(5)) {
+    case 0: *valence = (uint16_t)(*valence + change); return 1;
+    case 1: row[below(*valence)] ^= change; return 1;
+    case 2: point[c] = change % 2 ? -1048577 - (int32_t)some : 1048577 + (int32_t)some; return 1;
+    case 3: row[GT_RING_PLACES - 1] = *valence < GT_RING_PLACES ? change : row[GT_RING_PLACES - 1]; return 0;
+    default: point[c] = (int32_t)inside - 1048576; return 0;
+    }
+}
+
+/* Something above level 0 is altered: 11 where it matters, otherwise only what is touched changes. */
+static void try_altered(const control_mesh *m) {
+    size_t levels = 1 + below(2), counts[5], total = count_levels(m, levels, counts), last = total - counts[levels];
+    size_t at = m->count + below(total - m->count), old = counts[levels - 1];
+    lend_mesh(m, total, (total + 31) / 32);
+    HOLD(call_refine(m->count, levels).number == 0);
+    int wanted = alter(at);
+    remember_tables();
+    lend_moves(m->count, 1, 0);
+    gt_value answer = call_moves(m->count, levels, 1);
+    if (wanted) HOLD(answer.number == GT_STACK_ALTERED && answer.place == at);
+    else if (answer.number) HOLD(answer.number == GT_OUT_OF_REACH);
+    else hold_touched(m->count, counts, levels, 1, answer.value);
+    for (size_t k = below(3); k > 0; k--) {
+        if (((uint16_t *)valences.begin)[at] == 0 || ((uint16_t *)valences.begin)[at] > GT_RING_PLACES) break;
+        alter(at);
+        at = at + 1 < total ? at + 1 : at;
+    }
+    remember_tables();
+    call_moves(m->count, levels, 1);
+    lend_mesh(m, total, (total + 31) / 32);
+    call_refine(m->count, levels);
+    size_t x = old + below(counts[levels] - old), y = below(4) ? old + below(counts[levels] - old) : below(counts[levels]);
+    exchange((uint16_t *)rings.begin + GT_RING_PLACES * last, (uint16_t *)valences.begin + last, counts[levels], x, y);
+    remember_tables();
+    answer = call_moves(m->count, levels, 1);
+    if (x != y) HOLD(answer.number == GT_STACK_ALTERED);
+}
+
+/* A table with its last item gone. */
+static void shorten(guarded *g, size_t item, size_t *length) {
+    void *contents = copy(g);
+    lend(g, contents, item * --*length);
+    free(contents);
+}
+
+/* Tables with exactly the room that is needed, or one item less in one of them. */
+static void try_lengths(const control_mesh *m) {
+    size_t levels = 1 + below(2), counts[5], total = count_levels(m, levels, counts), room = 14 + 20 * m->count;
+    for (size_t v = 0; v < m->count; v++) room += 2 * (size_t)m->valences[v];
+    for (size_t control = 0; control < 2; control++) {
+        lend_mesh(m, control ? m->count : total, (total + 31) / 32);
+        if (!control) call_refine(m->count, levels);
+        switch (below(5)) {
+        case 0: shorten(&valences, 2, &valences_length); break;
+        case 1: shorten(&rings, 2, &rings_length); break;
+        case 2: shorten(&positions, 4, &positions_length); break;
+        case 3: shorten(&map, 4, &map_length); break;
+        }
+        remember_tables();
+        call_check(m->count);
+        lend_moves(m->count, 62 + below(5), 0);
+        call_moves(m->count, levels, moves.bytes / sizeof(gt_move));
+        remember_tables();
+        call_refine(m->count, levels);
+        remember_tables();
+        lend_noise(&bytes, 1, room + 1 - below(3));
+        call_write(m->count, bytes.bytes);
+        try_edits(m->count);
+    }
+}
+
+/* A sound mesh in which a few items change at random: every call ends and answers one of its refusals, or none. */
+static void try_damaged(const control_mesh *m) {
+    lend_mesh(m, m->count + 200, 20);
+    for (size_t k = 1 + below(3); k > 0; k--) {
+        size_t v = below(m->count), place = below(m->valences[v]);
+        uint16_t *row = (uint16_t *)rings.begin + GT_RING_PLACES * v;
+        switch (below(4)) {
+        case 0: ((uint16_t *)valences.begin)[v] = (uint16_t)around(33); break;
+        case 1: row[place] = (uint16_t)around(m->count); break;
+        case 2: ((int32_t *)positions.begin)[3 * v] = (int32_t)random_bits(&state); break;
+        default: memcpy(row, row + 1, 2);
+        }
+    }
+    remember_tables();
+    call_check(m->count);
+    for (size_t i = 0; i < 12; i++) try_edits(m->count);
+    lend_moves(m->count, 2, 1);
+    call_moves(m->count, 1, 2);
+    remember_tables();
+    gt_counts checked = call_check(m->count), refined = call_refine(m->count, 1);
+    if (checked.number) HOLD(refined.number == checked.number && refined.place == checked.place);
+}
+
+int main(int argc, char **argv) {
+    uint64_t seed = argc > 1 ? strtoull(argv[1], NULL, 10) : 1;
+    size_t rounds = argc > 2 ? (size_t)strtoull(argv[2], NULL, 10) : 1000;
+    static control_mesh m;
+    state = seed * 0x2545f4914f6cdd1du;
+    for (rounds_done = 0; rounds_done < rounds; rounds_done++) {
+        for (size_t i = 0; i < 8; i++) try_noise();
+        random_mesh(&m);
+        try_file(&m);
+        try_moves(&m);
+        try_altered(&m);
+        try_lengths(&m);
+        try_damaged(&m);
+    }
+    printf("fuzz: seed %llu, %zu rounds, %zu calls, %zu accepted, nothing wrong\n", (unsigned long long)seed, rounds, calls,
+           accepted_calls);
+    return 0;
+}

@@ -1,0 +1,132 @@
+/* Sound control meshes for programs that try or measure the library: spheres, tori, double cones, with random edges
+ * turned round. Numbers depend on a seed alone. */
+#ifndef MESHES_H
+#define MESHES_H
+
+#include <string.h>
+#include "gypsumtrot.h"
+
+static inline uint64_t random_bits(uint64_t *state) {
+    uint64_t z = *state += 0x9e3779b97f4a7c15u;
+    z = (z ^ (z >> 30)) * 0xbf58476d1ce4e5b9u;
+    z = (z ^ (z >> 27)) * 0x94d049bb133111ebu;
+    return z ^ (z >> 31);
+}
+
+static inline size_t random_below(uint64_t *state, size_t n) { return (size_t)(random_bits(state) % n); }
+
+/* A control mesh with rows for the largest. */
+typedef struct {
+    size_t count;
+    uint16_t valences[GT_MOST_VERTICES], rings[GT_RING_PLACES * GT_MOST_VERTICES];
+    int32_t positions[3 * GT_MOST_VERTICES];
+} control_mesh;
+
+static inline void mesh_row(control_mesh *m, size_t v, size_t valence, const size_t *ring) {
+    uint16_t *row = m->rings + GT_RING_PLACES * v;
+    m->valences[v] = (uint16_t)valence;
+    for (size_t i = 0; i < GT_RING_PLACES; i++) row[i] = i < valence ? (uint16_t)ring[i] : GT_NULL_VERTEX;
+}
+
+static inline size_t mesh_place(const control_mesh *m, size_t v, size_t x) {
+    size_t i = 0;
+    while (i < m->valences[v] && m->rings[GT_RING_PLACES * v + i] != x) i++;
+    return i;
+}
+
+static inline void mesh_insert_after(control_mesh *m, size_t v, size_t a, size_t x) {
+    uint16_t *row = m->rings + GT_RING_PLACES * v;
+    size_t at = mesh_place(m, v, a) + 1;
+    memmove(row + at + 1, row + at, 2 * (m->valences[v] - at));
+    row[at] = (uint16_t)x;
+    m->valences[v]++;
+}
+
+static inline void mesh_erase(control_mesh *m, size_t v, size_t x) {
+    uint16_t *row = m->rings + GT_RING_PLACES * v;
+    size_t at = mesh_place(m, v, x);
+    memmove(row + at, row + at + 1, 2 * (m->valences[v] - at - 1));
+    row[--m->valences[v]] = GT_NULL_VERTEX;
+}
+
+/* Puts a new vertex into the face at place i of v. */
+static inline void mesh_split(control_mesh *m, size_t v, size_t i) {
+    const uint16_t *row = m->rings + GT_RING_PLACES * v;
+    size_t u = row[i], w = row[(i + 1) % m->valences[v]], x = m->count++, ring[3] = {v, u, w};
+    if (m->valences[v] > 31 || m->valences[u] > 31 || m->valences[w] > 31) {
+        m->count--;
+        return;
+    }
+    mesh_row(m, x, 3, ring);
+    mesh_insert_after(m, v, u, x);
+    mesh_insert_after(m, u, w, x);
+    mesh_insert_after(m, w, v, x);
+}
+
+/* Turns the edge at place i of p round in its two triangles, unless valences or an edge that is there forbid it. */
+static inline void mesh_flip(control_mesh *m, size_t p, size_t i, size_t greatest) {
+    const uint16_t *row = m->rings + GT_RING_PLACES * p;
+    size_t n = m->valences[p], q = row[i], a = row[(i + 1) % n], b = row[(i + n - 1) % n];
+    if (n < 4 || m->valences[q] < 4 || m->valences[a] >= greatest || m->valences[b] >= greatest) return;
+    if (mesh_place(m, a, b) < m->valences[a]) return;
+    mesh_insert_after(m, a, p, b);
+    mesh_insert_after(m, b, q, a);
+    mesh_erase(m, p, q);
+    mesh_erase(m, q, p);
+}
+
+static inline void mesh_flip_random(control_mesh *m, uint64_t *state, size_t times, size_t greatest) {
+    for (size_t k = 0; k < times; k++) {
+        size_t p = random_below(state, m->count);
+        mesh_flip(m, p, random_below(state, m->valences[p]), greatest);
+    }
+}
+
+static inline void mesh_tetrahedron(control_mesh *m) {
+    static const size_t rings[4][3] = {{1, 2, 3}, {0, 3, 2}, {0, 1, 3}, {0, 2, 1}};
+    m->count = 4;
+    for (size_t v = 0; v < 4; v++) mesh_row(m, v, 3, rings[v]);
+}
+
+/* Two tips over a circle of n vertices. */
+static inline void mesh_double_cone(control_mesh *m, size_t n) {
+    size_t upper[GT_RING_PLACES], lower[GT_RING_PLACES];
+    m->count = n + 2;
+    for (size_t i = 0; i < n; i++) {
+        size_t ring[4] = {0, 1 + (i + n - 1) % n, n + 1, 1 + (i + 1) % n};
+        mesh_row(m, 1 + i, 4, ring);
+        upper[i] = 1 + i;
+        lower[i] = n - i;
+    }
+    mesh_row(m, 0, n, upper);
+    mesh_row(m, n + 1, n, lower);
+}
+
+/* A random sphere: vertices are put into random faces, then edges are turned until valences are even. */
+static inline void mesh_sphere(control_mesh *m, uint64_t *state, size_t count) {
+    mesh_tetrahedron(m);
+    while (m->count < count) {
+        size_t v = random_below(state, m->count);
+        mesh_split(m, v, random_below(state, m->valences[v]));
+        mesh_flip_random(m, state, 4, 9);
+    }
+    mesh_flip_random(m, state, 20 * count, 8);
+}
+
+/* A torus of a times b vertices, all of valence 6; a and b at least 3. */
+static inline void mesh_torus(control_mesh *m, size_t a, size_t b) {
+    m->count = a * b;
+    for (size_t i = 0; i < a; i++)
+        for (size_t j = 0; j < b; j++) {
+            size_t up = (i + 1) % a, down = (i + a - 1) % a, right = (j + 1) % b, left = (j + b - 1) % b;
+            size_t ring[6] = {up * b + j, up * b + right, i * b + right, down * b + j, down * b + left, i * b + left};
+            mesh_row(m, i * b + j, 6, ring);
+        }
+}
+
+static inline void mesh_random_positions(control_mesh *m, uint64_t *state, size_t reach) {
+    for (size_t i = 0; i < 3 * m->count; i++)
+        m->positions[i] = (int32_t)random_below(state, 2 * reach + 1) - (int32_t)reach;
+}
+
+#endif

@@ -1,0 +1,101 @@
+//! Holds the reference to cases that others have made.
+
+use crate::answers::*;
+use crate::calls::Tables;
+use crate::document::Move;
+use crate::format::*;
+
+/// The bytes of a case, read from front to back.
+struct Body<'a>(&'a [u8]);
+
+impl<'a> Body<'a> {
+    fn take(&mut self, bytes: usize) -> &'a [u8] {
+        let (taken, rest) = self.0.split_at(bytes);
+        self.0 = rest;
+        taken
+    }
+
+    fn scalar(&mut self) -> usize {
+        u32::from_le_bytes(self.take(4).try_into().unwrap()) as usize
+    }
+
+    fn table<const N: usize, T>(&mut self, item: impl Fn([u8; N]) -> T) -> Vec<T> {
+        let length = self.scalar();
+        self.take(N * length).chunks(N).map(|bytes| item(bytes.try_into().unwrap())).collect()
+    }
+
+    fn ring_tables(&mut self) -> Tables {
+        Tables { valences: self.table(u16::from_le_bytes), rings: self.table(u16::from_le_bytes), positions: vec![] }
+    }
+
+    fn mesh_tables(&mut self) -> Tables {
+        let rings = self.ring_tables();
+        Tables { positions: self.table(i32::from_le_bytes), ..rings }
+    }
+
+    fn moves(&mut self) -> Vec<Move> {
+        self.table(|bytes: [u8; 32]| {
+            let mut body = Body(&bytes);
+            let (vertex, kind) = (body.scalar() as u32, body.scalar() as u32);
+            let numbers = [0, 1, 2].map(|_| f64::from_le_bytes(body.take(8).try_into().unwrap()));
+            Move { vertex, kind, numbers }
+        })
+    }
+}
+
+/// The case anew, from the inputs of a given one.
+fn again(call: u8, body: &mut Body) -> Case {
+    match call {
+        CHECK => check_call(body.scalar(), body.mesh_tables()),
+        REFINE => refine_call(body.scalar(), body.scalar(), body.mesh_tables()),
+        MOVES => {
+            let (count, levels) = (body.scalar(), body.scalar());
+            moves_call(count, levels, body.mesh_tables(), body.table(u32::from_le_bytes), &body.moves())
+        }
+        READ => read_call(&body.table(u8::from_le_bytes), body.mesh_tables()),
+        WRITE => write_call(body.scalar(), body.mesh_tables(), body.table(u8::from_le_bytes)),
+        LISTING => listing_call(&body.table(u8::from_le_bytes)),
+        _ => {
+            let mut inputs = RingInputs { count: body.scalar(), v: body.scalar(), ..RingInputs::default() };
+            inputs.a = if brings(call) { body.scalar() } else { 0 };
+            inputs.x = if call == MAKE || call == VALENCE { 0 } else { body.scalar() };
+            let t = body.ring_tables();
+            if call == MAKE {
+                inputs.list = body.table(|bytes| u32::from_le_bytes(bytes) as usize);
+            }
+            ring_call(call, &inputs, t)
+        }
+    }
+}
+
+/// Whether the rest of a case, its answer and its runs, say what the reference finds.
+fn agrees(case: &Case, rest: &mut Body) -> bool {
+    if !rest.0.starts_with(&case.answer) {
+        return false;
+    }
+    rest.take(case.answer.len());
+    let mut agrees = true;
+    for (before, after, size) in &case.tables {
+        let mut expected = before.clone();
+        for _ in 0..rest.scalar() {
+            let (start, length) = (rest.scalar(), rest.scalar());
+            expected[size * start..][..size * length].copy_from_slice(rest.take(size * length));
+        }
+        agrees = agrees && expected == *after;
+    }
+    agrees && rest.0.is_empty()
+}
+
+/// Compares every case of a file; answers how many there are and which differ.
+pub fn compare(file: &[u8]) -> (usize, Vec<usize>) {
+    let mut file = Body(file);
+    assert_eq!(file.take(8), b"RNGCASE1");
+    let cases = file.scalar();
+    let differs = |_: &usize| {
+        let length = file.scalar();
+        let mut body = Body(file.take(length));
+        let call = body.take(4)[0];
+        !agrees(&again(call, &mut body), &mut body)
+    };
+    (cases, (0..cases).filter(differs).collect())
+}

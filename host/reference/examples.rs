@@ -1,0 +1,76 @@
+//! The small meshes that document 01 gives with their answers, held against the reference itself.
+
+use crate::calls::{self, Tables};
+use crate::document::*;
+
+fn mesh(rings: &[&[usize]], points: &[Point], rows: usize) -> Tables {
+    let mut t = Tables::with_rows(rows);
+    for v in 0..rings.len() {
+        t.set_ring(v, rings[v]);
+        t.set_point(v, points[v]);
+    }
+    t
+}
+
+fn tetrahedron(rows: usize) -> Tables {
+    let points = [[0, 0, 0], [1024, 0, 0], [0, 1024, 0], [0, 0, 1024]];
+    mesh(&[&[1, 2, 3], &[0, 3, 2], &[0, 1, 3], &[0, 2, 1]], &points, rows)
+}
+
+fn octahedron(rows: usize) -> Tables {
+    let rings: [&[usize]; 6] = [&[1, 2, 3, 4], &[0, 4, 5, 2], &[0, 1, 5, 3], &[0, 2, 5, 4], &[0, 3, 5, 1], &[1, 4, 3, 2]];
+    mesh(&rings, &[[0, 0, 0]; 6], rows)
+}
+
+fn place(vertex: u32, x: f64) -> Move {
+    Move { vertex, kind: 0, numbers: [x, 0.0, 0.0] }
+}
+
+fn meshes() {
+    let mut t = tetrahedron(14);
+    assert_eq!(calls::check(&t, 4), Ok((4, 6, 4)));
+    assert_eq!(calls::refine(&mut t, 4, 1), Ok((10, 24, 16)));
+    assert_eq!(t.ring(4 + 1), [4, 8, 7]);
+    assert_eq!(t.ring(4 + 4), [0, 6, 8, 1, 7, 5]);
+    assert_eq!(t.ring(4 + 9), [2, 7, 8, 3, 6, 5]);
+    assert_eq!(calls::moves(&mut t, &mut [0], 4, 1, &[place(1, 0.5)]), Ok(11));
+    let mut o = octahedron(24);
+    let mut map = [0];
+    calls::refine(&mut o, 6, 1).unwrap();
+    assert_eq!(calls::moves(&mut o, &mut map, 6, 1, &[place(0, 0.5)]), Ok(14));
+    assert_eq!(map[0] >> (6 + 5) & 1, 0);
+    t.set_ring(1, &[0, 2, 3]);
+    assert_eq!(calls::check(&t, 4), refuse(6, 0));
+    t.set_ring(1, &[3, 2]);
+    assert_eq!(calls::check(&t, 4), refuse(4, 1));
+    assert_eq!(next(&tetrahedron(4).ring(0), 3), Some(1));
+    assert_eq!(next(&tetrahedron(4).ring(0), 0), None);
+}
+
+fn floats() {
+    let shift = Move { vertex: 0, kind: 1, numbers: [0.1, 0.0, 0.0] };
+    assert_eq!(moved([77, 0, 0], &place(0, 0.1)), Ok([102, 0, 0]));
+    assert_eq!(moved([102, 0, 0], &shift), Ok([204, 0, 0]));
+    assert_eq!(moved([0, 0, 0], &place(0, 0.2)), Ok([205, 0, 0]));
+    assert_eq!([1.0 / 2048.0, -1.0 / 2048.0, -3.0 / 2048.0].map(units), [1, 0, -1]);
+    assert_eq!(moved([0, 0, 0], &place(0, 1024.0)), Ok([FAR, 0, 0]));
+    assert_eq!(moved([0, 0, 0], &place(0, f64::from_bits(1024f64.to_bits() + 1))), Err(14));
+    assert_eq!([-1, 1, -3].map(|n| rounded(n, 2)), [0, 1, -1]);
+    assert_eq!([5e-324, -5e-324, 0.49999999999999994 / 1024.0].map(units), [0, 0, 0]);
+}
+
+fn listings() {
+    let bytes = calls::file_of(&tetrahedron(4), 4);
+    assert_eq!(bytes.len(), 118);
+    let lines = "1 10 24 16\n0 192 192 192 3\n1 448 192 192 3\n2 192 448 192 3\n3 192 192 448 3\n4 384 128 128 6\n\
+                 5 128 384 128 6\n6 128 128 384 6\n7 384 384 128 6\n8 384 128 384 6\n9 128 384 384 6\n";
+    assert_eq!(calls::listing(&bytes), lines);
+    assert_eq!(calls::listing(&[0; 16_385]), "refused 10 0\n");
+    assert_eq!(calls::listing(&bytes[..8]), "refused 17 8\n");
+}
+
+pub fn hold() {
+    meshes();
+    floats();
+    listings();
+}

@@ -1,0 +1,44 @@
+//! An independent implementation of document 01, and cases with the answers that it gives.
+//!
+//!   reference cases SEED ROUNDS FILE    writes seeded cases
+//!   reference compare FILE              recomputes the answers of given cases and compares
+//!   reference listing                   is the listing program
+
+mod answers;
+mod calls;
+mod cases;
+mod compare;
+mod document;
+mod examples;
+mod format;
+mod meshes;
+mod random;
+
+use std::io::{Read, Write};
+
+fn main() -> std::io::Result<()> {
+    let arguments: Vec<String> = std::env::args().skip(1).collect();
+    let words: Vec<&str> = arguments.iter().map(String::as_str).collect();
+    match words[..] {
+        ["cases", seed, rounds, path] => {
+            examples::hold();
+            let cases = cases::all(seed.parse().expect("a seed"), rounds.parse().expect("a number of rounds"));
+            println!("{} cases", cases.len());
+            std::fs::write(path, format::file(&cases))
+        }
+        ["compare", path] => {
+            let (cases, different) = compare::compare(&std::fs::read(path)?);
+            println!("{cases} cases compared, {} differ {different:?}", different.len());
+            std::process::exit(!different.is_empty() as i32)
+        }
+        ["listing"] => {
+            let mut input = Vec::new();
+            std::io::stdin().read_to_end(&mut input)?;
+            std::io::stdout().write_all(calls::listing(&input).as_bytes())
+        }
+        _ => {
+            eprintln!("reference cases SEED ROUNDS FILE | reference compare FILE | reference listing");
+            std::process::exit(2)
+        }
+    }
+}
