@@ -1,0 +1,39 @@
+-- What a call promises settles everything: two outcomes that its promise allows for one input are equal, in the answer, and so in number, place and counts,
+-- and in every table. For refinement crate `refine` has it (OneOutcome). There is no exception (docs/EXCEPTIONS.md).
+-- Assumes nothing.
+use mathlib.Core.Path.{_≡_, sym, ap, _∙_}
+use mathlib.Core.List.{List}
+use Prim.Native.Nat.{ℕ}
+use lib.IntN.{ℤ}
+use Rattle.rings.specs.Paper.{paperAmount, paperVerdict}
+use Rattle.rings.specs.declared.Verdict.{Verdict}
+use Rattle.rings.specs.declared.Amount.{Amount}
+use Rattle.ring_calls.specs.Edit.{Edit}
+use Rattle.moves.specs.declared.Move.{Move}
+use Rattle.outcomes.specs.Outcomes.{Answers, Edited, Applied, ReadIn, WrittenOut, Listed}
+
+-- two things that are one promised thing are the same
+pub one-answer : {A : Type 0} {promised a b : A} → Answers promised a → Answers promised b → a ≡ b
+one-answer x y = x ∙ sym y
+
+module _ {e : Edit} {vs rs vs′ rs′ vs″ rs″ : List ℕ} {v : ℕ} {a b : Verdict} where
+  pub one-edit : Edited e vs rs v a vs′ rs′ → Edited e vs rs v b vs″ rs″ → (a ≡ b) × (paperVerdict a ≡ paperVerdict b) × (vs′ ≡ vs″) × (rs′ ≡ rs″)
+  one-edit x y = let q = one-answer (x .answers) (y .answers) in (q, ap paperVerdict q, one-answer (x .valences) (y .valences), one-answer (x .rings) (y .rings))
+
+module _ {n levels : ℕ} {vs rs map map′ map″ : List ℕ} {ps ps′ ps″ : List ℤ} {ms : List Move} {a b : Amount} where
+  pub one-list : Applied n levels vs rs ps map ms a ps′ map′ → Applied n levels vs rs ps map ms b ps″ map″ → (a ≡ b) × (paperAmount a ≡ paperAmount b) × (ps′ ≡ ps″) × (map′ ≡ map″)
+  one-list x y = let q = one-answer (x .answers) (y .answers) in (q, ap paperAmount q, one-answer (x .positions) (y .positions), one-answer (x .marks) (y .marks))
+
+module _ {s vs rs vs′ rs′ vs″ rs″ : List ℕ} {ps ps′ ps″ : List ℤ} {a b : Amount} where
+  pub one-reading : ReadIn s vs rs ps a vs′ rs′ ps′ → ReadIn s vs rs ps b vs″ rs″ ps″ → (a ≡ b) × (paperAmount a ≡ paperAmount b) × (vs′ ≡ vs″) × (rs′ ≡ rs″) × (ps′ ≡ ps″)
+  one-reading x y =
+      let q = one-answer (x .answers) (y .answers) in
+      (q, ap paperAmount q, one-answer (x .valences) (y .valences), one-answer (x .rings) (y .rings), one-answer (x .positions) (y .positions))
+
+module _ {n : ℕ} {vs rs room room′ room″ : List ℕ} {ps : List ℤ} {a b : Amount} where
+  pub one-writing : WrittenOut n vs rs ps room a room′ → WrittenOut n vs rs ps room b room″ → (a ≡ b) × (paperAmount a ≡ paperAmount b) × (room′ ≡ room″)
+  one-writing x y = let q = one-answer (x .answers) (y .answers) in (q, ap paperAmount q, one-answer (x .bytes) (y .bytes))
+
+module _ {input text text′ text″ : List ℕ} {a b : ℕ} where
+  pub one-listing : Listed input text a text′ → Listed input text b text″ → (a ≡ b) × (text′ ≡ text″)
+  one-listing x y = (one-answer (x .answers) (y .answers), one-answer (x .bytes) (y .bytes))

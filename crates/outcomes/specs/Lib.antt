@@ -1,0 +1,2 @@
+-- What each call's promise allows as its outcome.
+pub mod Outcomes

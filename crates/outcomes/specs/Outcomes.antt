@@ -1,0 +1,50 @@
+-- What each public call's contract says of its answer and of every table after it, as a relation between input and outcome; for refinement see crate `refine`, OneOutcome.
+-- A query and the check write nothing: their tables are lent as they are, and the answer is all.
+-- Assumes nothing.
+use mathlib.Core.Path.{_≡_}
+use mathlib.Core.List.{List}
+use Prim.Native.Nat.{ℕ}
+use lib.IntN.{ℤ}
+use lib.ListN.{length}
+use Rattle.rings.specs.declared.Verdict.{Verdict}
+use Rattle.rings.specs.declared.Amount.{Amount}
+use Rattle.rings.specs.Table.{put}
+use Rattle.ring_calls.specs.Edit.{Edit, valencesAfter, ringsAfter}
+use Rattle.moves.specs.Apply.{applyAnswer, applyPositions, applyMap}
+use Rattle.moves.specs.declared.Move.{Move}
+use Rattle.meshfile.specs.Read.{readAnswer, readValences, readRings, readPositions}
+use Rattle.meshfile.specs.Write.{writeAnswer, writeRoom}
+use Rattle.listing_text.specs.Listing.{listingText}
+
+-- an answer that must be this one: the check and the four queries
+abbrev pub Answers {ℓ} : {A : Type ℓ} → A → A → Type ℓ
+Answers promised answer = answer ≡ promised
+
+-- a ring edit of v: make, erase, replace, insert after, insert before
+pub record Edited (e : Edit) (vs rs : List ℕ) (v : ℕ) (answer : Verdict) (vs′ rs′ : List ℕ) : Type 0 where
+  pub answers : answer ≡ e .verdict
+  pub valences : vs′ ≡ valencesAfter e vs v
+  pub rings : rs′ ≡ ringsAfter e rs v
+
+-- a list of moves
+pub record Applied (n levels : ℕ) (vs rs : List ℕ) (ps : List ℤ) (map : List ℕ) (ms : List Move) (answer : Amount) (ps′ : List ℤ) (map′ : List ℕ) : Type 0 where
+  pub answers : answer ≡ applyAnswer n levels vs rs ps map ms
+  pub positions : ps′ ≡ applyPositions n levels vs rs ps map ms
+  pub marks : map′ ≡ applyMap n levels vs rs ps map ms
+
+-- reading a file
+pub record ReadIn (s vs rs : List ℕ) (ps : List ℤ) (answer : Amount) (vs′ rs′ : List ℕ) (ps′ : List ℤ) : Type 0 where
+  pub answers : answer ≡ readAnswer s vs rs ps
+  pub valences : vs′ ≡ readValences s vs rs ps
+  pub rings : rs′ ≡ readRings s vs rs ps
+  pub positions : ps′ ≡ readPositions s vs rs ps
+
+-- writing a file
+pub record WrittenOut (n : ℕ) (vs rs : List ℕ) (ps : List ℤ) (room : List ℕ) (answer : Amount) (room′ : List ℕ) : Type 0 where
+  pub answers : answer ≡ writeAnswer n vs rs ps room
+  pub bytes : room′ ≡ writeRoom n vs rs ps room
+
+-- the listing
+pub record Listed (input text : List ℕ) (answer : ℕ) (text′ : List ℕ) : Type 0 where
+  pub answers : answer ≡ length (listingText input)
+  pub bytes : text′ ≡ put text 0 (listingText input)

@@ -1,0 +1,1 @@
+// What the calls promise settles everything they answer and leave. No code.
