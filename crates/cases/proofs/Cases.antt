@@ -21,7 +21,7 @@ use Rattle.ring_calls.specs.Calls.{tableVerdict, callVerdict}
 use Rattle.ring_calls.specs.Queries.{withNeighbour, nextAnswer}
 use Rattle.refine.specs.Stack.{levelStart, stackCount, levelOf, numberIn, badLevels, tooLarge, shortStack}
 use Rattle.refine.specs.Refinement.{stackedValences, stackedRings, stackedPositions, stackVerdict, refineAnswer, refineValences, refineRings, refinePositions}
-use Rattle.moves.specs.Moves.{placed, step}
+use Rattle.plan.specs.Moves.{placed, step}
 use Rattle.map.specs.Map.{wordCount, word, mapWords}
 use Rattle.as_refined.specs.Expected.{whole, otherThan, wanted, strange}
 use Rattle.moves.specs.Apply.{beforeMoves, moved, applyVerdict, touchedAt, touchedTotal, touchedMap, applyAnswer, applyMap}

@@ -5,7 +5,7 @@ use mathlib.Core.Logic.{_≢_}
 use borrow.Author.Tests.{eq-eqb, ne-eqb}
 use Rattle.units.specs.declared.Change.{Change}
 use Rattle.units.specs.declared.Change.the-variants.{Place, Shift, Stretch}
-use Rattle.moves.specs.declared.Move.{Move}
+use Rattle.plan.specs.declared.Move.{Move}
 use Rattle.gypsumtrot.specs.Records.{moveOf}
 use Rattle.gypsumtrot.specs.declared.MoveRecord.{MoveRecord}
 

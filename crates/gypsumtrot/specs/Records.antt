@@ -3,7 +3,7 @@
 use mathlib.Core.Bool.{cond}
 use lib.Dec.{eqb}
 use Rattle.units.specs.declared.Change.the-variants.{Place, Shift, Stretch}
-use Rattle.moves.specs.declared.Move.{Move}
+use Rattle.plan.specs.declared.Move.{Move}
 use Rattle.gypsumtrot.specs.declared.MoveRecord.{MoveRecord}
 
 -- the move that a record means: kind 0 is a placing, 1 a shift, 2 a stretch; one of an unknown kind is of a vertex that no mesh has, so that the list is refused at its place

@@ -1,16 +1,16 @@
 // A list of moves as it crosses the C interface: a table of plain records, worked out into a plan.
 ghost use mathlib.Core.Path.{_≡_};
 ghost use mathlib.Core.List.{map};
-ghost use Rattle.moves.specs.Plan.{stepOf, walkOf};
+ghost use Rattle.plan.specs.Plan.{stepOf, walkOf};
 ghost use Rattle.gypsumtrot.specs.Records.{moveOf};
 use super::MoveRecord;
 use super::NO_VERTEX;
 use super::PLACE;
 use super::SHIFT;
 use super::STRETCH;
-use moves::Move;
-use moves::Plan;
-use moves::list::step;
+use plan::Move;
+use plan::Plan;
+use plan::list::step;
 use units::Change;
 
 // The move that a record means; one of an unknown kind is of a vertex that no mesh has.

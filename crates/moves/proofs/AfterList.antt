@@ -31,10 +31,10 @@ use Rattle.refine.proofs.Sizes.{start-suc}
 use Rattle.refine.proofs.AcceptedStack.{stack-only}
 use Rattle.refine.proofs.StackLevels.{start-is, levels-room}
 use Rattle.refine.proofs.LevelRows as L
-use Rattle.moves.specs.Moves.{Pending, pending, stopped, named, pendingVerdict, pendingPoints}
+use Rattle.plan.specs.Moves.{Pending, pending, stopped, named, pendingVerdict, pendingPoints}
 use Rattle.refresh.specs.Stack.{refreshedAt, refreshedPositions}
 use Rattle.moves.specs.Apply.{beforeMoves, moved, applyVerdict, movedControl, applyPositions}
-use Rattle.moves.specs.declared.Move.{Move}
+use Rattle.plan.specs.declared.Move.{Move}
 use Rattle.moves.proofs.ControlPoints.{ChangedAt, run-changes, named-below}
 
 -- what a stack holds above level 0 is all that a refresh looks at

@@ -32,14 +32,14 @@ use Rattle.as_refined.proofs.StackAsRefined.{AsRefined, stack-as-refined}
 use Rattle.refresh.specs.Stack.{StackReady, MapReady, TouchedMarked, refreshedPositions}
 use Rattle.refresh.proofs.Called.{accepted-moved, positions-by, mark-by}
 use Rattle.refresh.proofs.TouchedMarks.{vertex-of, marks-counted}
-use Rattle.moves.specs.Moves.{placed}
+use Rattle.plan.specs.Moves.{placed}
 use Rattle.moves.specs.Apply.{touchedAt, touchedTotal, touchedMap}
-use Rattle.moves.specs.Plan.{Near, Fair, planned, namedIn, withNamed, laid}
-use Rattle.moves.specs.declared.Entry.{Entry}
-use Rattle.moves.specs.declared.Plan.{Plan}
+use Rattle.plan.specs.Plan.{Near, Fair, planned, namedIn, withNamed, laid}
+use Rattle.plan.specs.declared.Entry.{Entry}
+use Rattle.plan.specs.declared.Plan.{Plan}
 use Rattle.moves.proofs.AfterList.{control-first}
 use Rattle.moves.proofs.Judging.{Judged}
-use Rattle.moves.proofs.Laid.{Each, Low, NearEntry, each-take, length-placed, point-other, length-laid, latest-laid, latest-near}
+use Rattle.plan.proofs.Laid.{Each, Low, NearEntry, each-take, length-placed, point-other, length-laid, latest-laid, latest-near}
 
 -- ---- entries of control vertices
 

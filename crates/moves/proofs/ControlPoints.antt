@@ -19,8 +19,8 @@ use Rattle.units.specs.declared.Moved.the-variants.{At, NotFinite, Outside}
 use Rattle.rings.specs.Table.{put, coordinateAt, pointAt}
 use Rattle.rings.specs.declared.Refusal.{Refusal}
 use Rattle.rings.proofs.Tables.{length-put, put-before, put-behind}
-use Rattle.moves.specs.Moves.{Pending, pending, stopped, placed, settle, step, run, named}
-use Rattle.moves.specs.declared.Move.{Move}
+use Rattle.plan.specs.Moves.{Pending, pending, stopped, placed, settle, step, run, named}
+use Rattle.plan.specs.declared.Move.{Move}
 
 -- the second table is as long as the first, and differs from it at marked vertices only
 pub record ChangedAt (marks : ℕ → Bool) (ps qs : List ℤ) : Type 0 where

@@ -28,9 +28,9 @@ use Rattle.refine.specs.Accepts.{AcceptsStack}
 use Rattle.refine.specs.Refinement.{stackedValences, stackedRings, stackedPositions, stackVerdict, refineValences, refineRings, refinePositions}
 use Rattle.refine.proofs.AcceptedStack.{stack-only}
 use Rattle.refine.proofs.StackLevels.{start-is, level-part, coordinate-at}
-use Rattle.moves.specs.Moves.{named}
+use Rattle.plan.specs.Moves.{named}
 use Rattle.moves.specs.Apply.{applyVerdict, movedControl, applyPositions}
-use Rattle.moves.specs.declared.Move.{Move}
+use Rattle.plan.specs.declared.Move.{Move}
 use Rattle.moves.proofs.AfterList.{heldAt, refused-keeps, stack-accepted, control-changes, after-list, control-after}
 
 -- every coordinate of levels 0 to L is what refining the control points gives

@@ -4,11 +4,7 @@ pub mod MapShowsTouched
 -- laws
 pub mod ControlPoints
 pub mod AfterList
-pub mod Plans
-pub mod FairPlans
-pub mod Laid
-pub mod PlansMeanMoves
-pub mod Shared
+pub mod EntryByEntry
 pub mod Judging
 pub mod CarriedOut
 pub mod Settled

@@ -27,9 +27,9 @@ use Rattle.refine.proofs.StackVertices.{vertex-in, level-of, number-in}
 use Rattle.as_refined.specs.Expected.{whole}
 use Rattle.refresh.specs.Stack.{TouchedMarked}
 use Rattle.refresh.proofs.TouchedMarks.{marks-counted}
-use Rattle.moves.specs.Moves.{named}
+use Rattle.plan.specs.Moves.{named}
 use Rattle.moves.specs.Apply.{touchedAt, touchedTotal, touchedMap, applyVerdict, applyAnswer, applyMap}
-use Rattle.moves.specs.declared.Move.{Move}
+use Rattle.plan.specs.declared.Move.{Move}
 use Rattle.moves.proofs.AfterList.{control-first, stack-accepted, names-below, map-room}
 
 module _ (n levels : ℕ) (vs rs : List ℕ) (ps : List ℤ) (map : List ℕ) (ms : List Move) (accepted : applyVerdict n levels vs rs ps map ms ≡ Accepted) where

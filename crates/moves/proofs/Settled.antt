@@ -14,15 +14,15 @@ use Rattle.rings.specs.declared.Amount.{Amount}
 use Rattle.rings.specs.declared.Amount.the-variants as amount
 use Rattle.rings.specs.declared.Amount.the-variants.{Of}
 use Rattle.refresh.specs.Stack.{refreshedPositions}
-use Rattle.moves.specs.Moves.{Pending, pending, run, named, pendingVerdict, pendingPoints}
+use Rattle.plan.specs.Moves.{Pending, pending, run, named, pendingVerdict, pendingPoints}
 use Rattle.moves.specs.Apply.{beforeMoves, touchedTotal, touchedMap, moved, movedControl, applyVerdict, applyAnswer, applyPositions, applyMap}
-use Rattle.moves.specs.Plan.{emptyPlan, planned, laid, namedIn, walkOf}
+use Rattle.plan.specs.Plan.{emptyPlan, planned, laid, namedIn, walkOf}
 use Rattle.moves.specs.Settle.{settleVerdict, settleAnswer, settlePositions, settleMap}
-use Rattle.moves.specs.declared.Plan.{Plan}
-use Rattle.moves.specs.declared.Move.{Move}
-use Rattle.moves.proofs.FairPlans.{walk-count}
+use Rattle.plan.specs.declared.Plan.{Plan}
+use Rattle.plan.specs.declared.Move.{Move}
+use Rattle.plan.proofs.FairPlans.{walk-count}
 use Rattle.moves.proofs.Judging.{Judged, judged}
-use Rattle.moves.proofs.PlansMeanMoves.{Means, plan-means}
+use Rattle.plan.proofs.PlansMeanMoves.{Means, plan-means}
 
 module _ (plan : Plan) (moves levels : ℕ) (vs rs : List ℕ) (ps : List ℤ) (map : List ℕ) where
   -- refused before the first move

@@ -21,8 +21,8 @@ use Rattle.refine.specs.Stack.{levelOf, numberIn}
 use Rattle.refine.specs.Refinement.{stackVerdict}
 use Rattle.as_refined.specs.Expected.{whole, strange}
 use Rattle.refresh.specs.Stack.{refreshedPositions}
-use Rattle.moves.specs.Moves.{Pending, pending, run, named, pendingVerdict, pendingPoints}
-use Rattle.moves.specs.declared.Move.{Move}
+use Rattle.plan.specs.Moves.{Pending, pending, run, named, pendingVerdict, pendingPoints}
+use Rattle.plan.specs.declared.Move.{Move}
 
 module _ (n levels : ℕ) (vs rs : List ℕ) (ps : List ℤ) where
   -- what is judged before the first move, for a map of so many words and so many moves: 8, the check, 9, 10 for the tables and the map, 11, 12

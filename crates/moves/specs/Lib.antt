@@ -1,5 +1,3 @@
--- Lists of moves: what they mean, the call as a whole, how they are planned, and the call by its plan.
-pub mod Moves
+-- Lists of moves on a refined stack: the call as a whole, and the call by its plan.
 pub mod Apply
-pub mod Plan
 pub mod Settle

@@ -8,9 +8,9 @@ use Rattle.rings.specs.Verdict.{andThen, after, withAmount}
 use Rattle.rings.specs.declared.Verdict.{Verdict}
 use Rattle.rings.specs.declared.Amount.{Amount}
 use Rattle.refresh.specs.Stack.{refreshedPositions}
-use Rattle.moves.specs.Plan.{planned, laid, namedIn}
+use Rattle.plan.specs.Plan.{planned, laid, namedIn}
 use Rattle.moves.specs.Apply.{beforeMoves, touchedTotal, touchedMap}
-use Rattle.moves.specs.declared.Plan.{Plan}
+use Rattle.plan.specs.declared.Plan.{Plan}
 
 module _ (plan : Plan) (moves levels : ℕ) (vs rs : List ℕ) (ps : List ℤ) (map : List ℕ) where
   -- the stack is judged, then the plan's verdict stands

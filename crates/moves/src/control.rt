@@ -3,10 +3,10 @@ ghost use mathlib.Core.Path.{_≡_};
 ghost use Prim.Native.Nat.{_+_, _*_, _≤_};
 ghost use lib.ListN.{length};
 ghost use Rattle.map.specs.Map.{marked};
-ghost use Rattle.moves.specs.Moves.{placed};
-ghost use Rattle.moves.specs.Plan.{Fair, planned, laid, withNamed};
-use super::Plan;
+ghost use Rattle.plan.specs.Moves.{placed};
+ghost use Rattle.plan.specs.Plan.{Fair, planned, laid, withNamed};
 use map::mark;
+use plan::Plan;
 use units::Point;
 
 // Sets v's point.

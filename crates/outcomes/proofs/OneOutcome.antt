@@ -9,7 +9,7 @@ use Rattle.rings.specs.Paper.{paperAmount, paperVerdict}
 use Rattle.rings.specs.declared.Verdict.{Verdict}
 use Rattle.rings.specs.declared.Amount.{Amount}
 use Rattle.ring_calls.specs.Edit.{Edit}
-use Rattle.moves.specs.declared.Move.{Move}
+use Rattle.plan.specs.declared.Move.{Move}
 use Rattle.outcomes.specs.Outcomes.{Answers, Edited, Applied, ReadIn, WrittenOut, Listed}
 
 -- two things that are one promised thing are the same

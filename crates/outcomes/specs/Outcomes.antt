@@ -11,7 +11,7 @@ use Rattle.rings.specs.declared.Amount.{Amount}
 use Rattle.rings.specs.Table.{put}
 use Rattle.ring_calls.specs.Edit.{Edit, valencesAfter, ringsAfter}
 use Rattle.moves.specs.Apply.{applyAnswer, applyPositions, applyMap}
-use Rattle.moves.specs.declared.Move.{Move}
+use Rattle.plan.specs.declared.Move.{Move}
 use Rattle.meshfile.specs.Read.{readAnswer, readValences, readRings, readPositions}
 use Rattle.meshfile.specs.Write.{writeAnswer, writeRoom}
 use Rattle.listing_text.specs.Listing.{listingText}

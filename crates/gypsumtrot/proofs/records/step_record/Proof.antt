@@ -4,7 +4,7 @@ use denote.Ref.{now}
 use borrow.Author.Needs.{needs}
 use Rattle.gypsumtrot.proofs.records.step_record.Statement.{statement}
 use Rattle.gypsumtrot.proofs.records.step_record.Tie as tie
-use Rattle.moves.specs.Plan.{stepOf}
+use Rattle.plan.specs.Plan.{stepOf}
 
 move-of-requires : tie.Need-move-of-requires
 move-of-requires c κs = search needs

@@ -51,10 +51,10 @@ use denote.Triple.Spec.{Meets, tripleOf}
 use denote.Triple.Table.{entered, cited}
 use denote.Triple.Clauses.{ensured, lasts}
 use denote.Triple.Walked.{says, Stays, stay-none-slice, stay-none, walkOf as walkTriple, Walks, ends-at, walked, goes-none-slice, goes-none, walk-meets}
-use Rattle.moves.specs.Plan.{stepOf, walkOf}
-use Rattle.moves.specs.declared.Plan.{Plan}
-use Rattle.moves.proofs.Plan as S
-use Rattle.moves.proofs.Plan.Laws as S′
+use Rattle.plan.specs.Plan.{stepOf, walkOf}
+use Rattle.plan.specs.declared.Plan.{Plan}
+use Rattle.plan.proofs.Plan as S
+use Rattle.plan.proofs.Plan.Laws as S′
 use Rattle.gypsumtrot.specs.Records.{moveOf}
 use Rattle.gypsumtrot.specs.declared.MoveRecord.{MoveRecord}
 use Rattle.gypsumtrot.proofs.MoveRecord as T

@@ -45,25 +45,25 @@ use denote.Triple.Walked.{says, Stays, stay-none-slice, stay-none, gave-slice, w
 use Rattle.rings.specs.declared.Amount.{Amount}
 use Rattle.rings.proofs.Amount as E
 use Rattle.rings.proofs.Amount.Laws as E′
-use Rattle.moves.specs.Plan.{Fair, emptyPlan, walkOf}
+use Rattle.plan.specs.Plan.{Fair, emptyPlan, walkOf}
 use Rattle.moves.specs.Apply.{applyAnswer, applyPositions, applyMap}
 use Rattle.moves.specs.Settle.{settleAnswer, settlePositions, settleMap}
 use Rattle.moves.proofs.Settled.{settle-is-apply}
-use Rattle.moves.specs.declared.Move.{Move}
-use Rattle.moves.specs.declared.Plan.{Plan}
-use Rattle.moves.proofs.FairPlans.{walk-fair}
-use Rattle.moves.proofs.Shared.{LentShared, lends-shared, shared-back}
-use Rattle.moves.proofs.Move as T
-use Rattle.moves.proofs.Plan as S
-use Rattle.moves.proofs.Plan.Laws as S′
-use Rattle.moves.proofs.list.opened as opened
-use Rattle.moves.proofs.list.opened.Symbol as opened-def
-use Rattle.moves.proofs.list.opened.Symbol.{name as #moves·opened}
-use Rattle.moves.proofs.list.opened.Met as opened-thm
-use Rattle.moves.proofs.list.walk as walk
-use Rattle.moves.proofs.list.walk.Symbol as walk-def
-use Rattle.moves.proofs.list.walk.Symbol.{name as #moves·walk}
-use Rattle.moves.proofs.list.walk.Met as walk-thm
+use Rattle.plan.specs.declared.Move.{Move}
+use Rattle.plan.specs.declared.Plan.{Plan}
+use Rattle.plan.proofs.FairPlans.{walk-fair}
+use Rattle.plan.proofs.Shared.{LentShared, lends-shared, shared-back}
+use Rattle.plan.proofs.Move as T
+use Rattle.plan.proofs.Plan as S
+use Rattle.plan.proofs.Plan.Laws as S′
+use Rattle.plan.proofs.list.opened as opened
+use Rattle.plan.proofs.list.opened.Symbol as opened-def
+use Rattle.plan.proofs.list.opened.Symbol.{name as #plan·opened}
+use Rattle.plan.proofs.list.opened.Met as opened-thm
+use Rattle.plan.proofs.list.walk as walk
+use Rattle.plan.proofs.list.walk.Symbol as walk-def
+use Rattle.plan.proofs.list.walk.Symbol.{name as #plan·walk}
+use Rattle.plan.proofs.list.walk.Met as walk-thm
 use Rattle.moves.proofs.call.settle as settle
 use Rattle.moves.proofs.call.settle.Symbol as settle-def
 use Rattle.moves.proofs.call.settle.Symbol.{name as #moves·settle}
@@ -261,7 +261,7 @@ module _ {M : Type 1} (𝓤 : URA M) (H : Heap 𝓤) (A : Atoms 𝓤) (W : Given
       move ! (3 ∷ 0 ∷ []) $ fjoin ! $ move ! (3 ∷ 0 ∷ []) $ fjoin ! $ move ! (2 ∷ 0 ∷ []) $ fjoin ! $ move ! (1 ∷ 0 ∷ []) $ fjoin ! $ move ! (1 ∷ 0 ∷ []) $ fjoin ! $ frame ! $
       owned ! E.the-row (Is E.the-row) (EL.makes E.the-type E′.the-plain 𝓤 H A) r _ is $ done !
 
-  module _ (C : Calls 𝓤 H) (Λ : Loops 𝓤 H) (fm : FmC 𝓤 H (W .laws) C) (known-opened : Triple 𝓤 (C #moves·opened) (Opened 𝓤 H A mem run)) (known-walk : Triple 𝓤 (C #moves·walk) (Walked 𝓤 H A mem run)) (known-settle : Triple 𝓤 (C #moves·settle) (Settled 𝓤 H A mem run)) where
+  module _ (C : Calls 𝓤 H) (Λ : Loops 𝓤 H) (fm : FmC 𝓤 H (W .laws) C) (known-opened : Triple 𝓤 (C #plan·opened) (Opened 𝓤 H A mem run)) (known-walk : Triple 𝓤 (C #plan·walk) (Walked 𝓤 H A mem run)) (known-settle : Triple 𝓤 (C #moves·settle) (Settled 𝓤 H A mem run)) where
     planned-is : {s₀ s₁ : Plan} → s₀ ≡ emptyPlan n → s₁ ≡ walkOf ps ms s₀ → s₁ ≡ listed
     planned-is e₀ e₁ = e₁ ∙ ap (walkOf ps ms) e₀
 
@@ -315,7 +315,7 @@ module _ {M : Type 1} (𝓤 : URA M) (H : Heap 𝓤) (A : Atoms 𝓤) (W : Given
         move ! (39 ∷ 40 ∷ []) $ free1 ! $ move ! (37 ∷ 38 ∷ []) $ free1 ! $ move ! (35 ∷ 36 ∷ []) $ free1 ! $ move ! (33 ∷ 34 ∷ []) $ free1 ! $ move ! (31 ∷ 32 ∷ []) $ free1 ! $ move ! (29 ∷ 30 ∷ []) $ free1 ! $ move ! (27 ∷ 28 ∷ []) $ free1 ! $ move ! (25 ∷ 26 ∷ []) $ free1 ! $ move ! (23 ∷ 24 ∷ []) $ free1 ! $ move ! (21 ∷ 22 ∷ []) $ free1 ! $ move ! (19 ∷ 20 ∷ []) $ free1 ! $ move ! (17 ∷ 18 ∷ []) $ free1 ! $ move ! (15 ∷ 16 ∷ []) $ free1 ! $ move ! (13 ∷ 14 ∷ []) $ free1 ! $ move ! (11 ∷ 12 ∷ []) $ free1 ! $ move ! (9 ∷ 10 ∷ []) $ free1 ! $ move ! (7 ∷ 8 ∷ []) $ free1 ! $ free0 ! $
         keep ! (0 ∷ 1 ∷ 3 ∷ 4 ∷ 5 ∷ 6 ∷ []) $ by ! (exits r w (ws .1 .1 .1 .1 .0) (ws .1 .1 .1 .1 .1 .0) is lp lm (applied (subst (λ (s : Plan). Said s r (ws .1 .1 .1 .1 .0) (ws .1 .1 .1 .1 .1 .0)) (planned-is e₀ e₁) e₂)))))))))))))))))))))))))))))))))))))
 
-module _ {M : Type 1} (𝓤 : URA M) (H : Heap 𝓤) (A : Atoms 𝓤) (W : Given 𝓤 H A) (mem : Memory → SProp 𝓤) (run : Routine → Fun 𝓤) (𝓣 : Tables 𝓤 H) (known-opened : Triple 𝓤 (𝓣 .C #moves·opened) (Opened 𝓤 H A mem run)) (known-walk : Triple 𝓤 (𝓣 .C #moves·walk) (Walked 𝓤 H A mem run)) (known-settle : Triple 𝓤 (𝓣 .C #moves·settle) (Settled 𝓤 H A mem run)) where
+module _ {M : Type 1} (𝓤 : URA M) (H : Heap 𝓤) (A : Atoms 𝓤) (W : Given 𝓤 H A) (mem : Memory → SProp 𝓤) (run : Routine → Fun 𝓤) (𝓣 : Tables 𝓤 H) (known-opened : Triple 𝓤 (𝓣 .C #plan·opened) (Opened 𝓤 H A mem run)) (known-walk : Triple 𝓤 (𝓣 .C #plan·walk) (Walked 𝓤 H A mem run)) (known-settle : Triple 𝓤 (𝓣 .C #moves·settle) (Settled 𝓤 H A mem run)) where
   walks : Walks 𝓤 H A f.ended stayed (WpFn 𝓤 H (𝓣 .C) (𝓣 .Λ) code.function) (f.clauses 𝓤 H A mem run)
   walks = walked 𝓤 H A f.ended stayed (f.clauses 𝓤 H A mem run) (WpFn 𝓤 H (𝓣 .C) (𝓣 .Λ) code.function)
       (λ κs. (slice-vals, (slice-vals, (slice-vals, (slice-vals, (slice-vals, (uint-vals w64, (uint-vals w64, tt))))))))
@@ -343,6 +343,6 @@ apply-spec 𝓤 H 𝓜 𝓖 𝓡 =
     entered 𝓤 H (tripleOf 𝓤 H (𝓖 .A) f.signature (f.spec 𝓤 H (𝓖 .A) (𝓜 .mem) (𝓡 .run)))
     (tables 𝓤 H 𝓜 𝓡 code.env .C) (tables 𝓤 H 𝓜 𝓡 code.env .Λ) #moves·apply code.function (code.unfolded 𝓤 H 𝓜 𝓡)
     (meets 𝓤 H (𝓖 .A) (givenOf 𝓤 H 𝓜 𝓖) (𝓜 .mem) (𝓡 .run) (tablesOf 𝓤 H 𝓜 (tables 𝓤 H 𝓜 𝓡 code.env))
-    (cited 𝓤 H (Opened 𝓤 H (𝓖 .A) (𝓜 .mem) (𝓡 .run)) 𝓜 𝓡 code.env #moves·opened opened-def.routine code.calls-moves·list·opened (opened-thm.met 𝓤 H 𝓜 𝓖 𝓡))
-    (cited 𝓤 H (Walked 𝓤 H (𝓖 .A) (𝓜 .mem) (𝓡 .run)) 𝓜 𝓡 code.env #moves·walk walk-def.routine code.calls-moves·list·walk (walk-thm.met 𝓤 H 𝓜 𝓖 𝓡))
+    (cited 𝓤 H (Opened 𝓤 H (𝓖 .A) (𝓜 .mem) (𝓡 .run)) 𝓜 𝓡 code.env #plan·opened opened-def.routine code.calls-plan·list·opened (opened-thm.met 𝓤 H 𝓜 𝓖 𝓡))
+    (cited 𝓤 H (Walked 𝓤 H (𝓖 .A) (𝓜 .mem) (𝓡 .run)) 𝓜 𝓡 code.env #plan·walk walk-def.routine code.calls-plan·list·walk (walk-thm.met 𝓤 H 𝓜 𝓖 𝓡))
     (cited 𝓤 H (Settled 𝓤 H (𝓖 .A) (𝓜 .mem) (𝓡 .run)) 𝓜 𝓡 code.env #moves·settle settle-def.routine code.calls-moves·call·settle (settle-thm.met 𝓤 H 𝓜 𝓖 𝓡)))

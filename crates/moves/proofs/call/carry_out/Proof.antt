@@ -1,7 +1,7 @@
 -- `carry_out` meets its contract. Assumes nothing.
 use mathlib.Core.Path.{_≡_, sym, ap, _∙_}
 use Rattle.as_refined.specs.Expected.{whole}
-use Rattle.moves.specs.Plan.{planned}
+use Rattle.plan.specs.Plan.{planned}
 use Rattle.moves.proofs.Judging.{Judged, judged, edges-asked, edges-are, whole-is, whole-small}
 use Rattle.moves.proofs.CarriedOut.{fair-low, fair-near, laid-long, stack-ready, control-in-map, map-ready, counted, positions-after, map-marked}
 use borrow.Author.Needs.{needs}

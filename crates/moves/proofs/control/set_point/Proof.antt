@@ -2,7 +2,7 @@
 use denote.Ref.{now}
 use mir.Syntax.{w32}
 use mir.ValLaws.{toZ-ofZ}
-use Rattle.moves.proofs.Laid.{stored-read}
+use Rattle.plan.proofs.Laid.{stored-read}
 use borrow.Author.Needs.{needs}
 use native.Mathlib.Omega.{arith}
 use lib.ListN.{length-set}

@@ -5,10 +5,10 @@ use Prim.Native.Nat.{ℕ, _≤_, _<_, _-_}
 use lib.IntN.{ℤ}
 use lib.ListN.{getD, take, length}
 use Rattle.map.specs.Map.{including, marked}
-use Rattle.moves.specs.Moves.{placed}
-use Rattle.moves.proofs.Laid.{laid-more, named-more, named-none}
+use Rattle.plan.specs.Moves.{placed}
+use Rattle.moves.proofs.EntryByEntry.{laid-more, named-more, named-none}
 use mathlib.Core.Path.{_≡_, refl, ap, _∙_}
-use Rattle.moves.specs.Plan.{blank, planned, laid, withNamed}
+use Rattle.plan.specs.Plan.{blank, planned, laid, withNamed}
 use borrow.Author.Needs.{needs}
 use native.Mathlib.Omega.{arith}
 use Rattle.moves.proofs.control.write_control.Statement.{statement}

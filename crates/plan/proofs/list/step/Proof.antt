@@ -1,8 +1,8 @@
 -- `step` meets its contract. Assumes nothing.
-use Rattle.moves.proofs.Plans.{step-refused, step-full, step-unknown, step-taken}
+use Rattle.plan.proofs.Plans.{step-refused, step-full, step-unknown, step-taken}
 use borrow.Author.Needs.{needs}
-use Rattle.moves.proofs.list.step.Statement.{statement}
-use Rattle.moves.proofs.list.step.Tie as tie
+use Rattle.plan.proofs.list.step.Statement.{statement}
+use Rattle.plan.proofs.list.step.Tie as tie
 
 enum-known-verdict : tie.Need-enum-known-verdict
 enum-known-verdict c = search needs

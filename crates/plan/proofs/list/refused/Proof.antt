@@ -1,8 +1,8 @@
 -- `refused` meets its contract. Assumes nothing.
 use mathlib.Core.Path.{refl}
-use Rattle.moves.specs.Plan.{refusedIn}
-use Rattle.moves.proofs.list.refused.Statement.{statement}
-use Rattle.moves.proofs.list.refused.Tie as tie
+use Rattle.plan.specs.Plan.{refusedIn}
+use Rattle.plan.proofs.list.refused.Statement.{statement}
+use Rattle.plan.proofs.list.refused.Tie as tie
 
 returns : tie.Need-returns
 unfolding refusedIn

@@ -20,10 +20,10 @@ use Rattle.rings.specs.Verdict.{after}
 use Rattle.rings.specs.declared.Refusal.{Refusal}
 use Rattle.rings.specs.declared.Refusal.the-variants as refusal
 use Rattle.rings.specs.declared.Verdict.the-variants.{Accepted, Refused}
-use Rattle.moves.specs.Moves.{placed}
-use Rattle.moves.specs.declared.Move.{Move}
-use Rattle.moves.specs.declared.Entry.{Entry}
-use Rattle.moves.specs.declared.Plan.{Plan}
+use Rattle.plan.specs.Moves.{placed}
+use Rattle.plan.specs.declared.Move.{Move}
+use Rattle.plan.specs.declared.Entry.{Entry}
+use Rattle.plan.specs.declared.Plan.{Plan}
 
 -- the point that stands in for one that cannot be read
 abbrev pub origin : Point

@@ -27,14 +27,14 @@ use Rattle.rings.specs.declared.Refusal.the-variants as refusal
 use Rattle.rings.specs.declared.Verdict.{Verdict}
 use Rattle.rings.specs.declared.Verdict.the-variants.{Accepted, Refused}
 use Rattle.rings.proofs.Checks.{not-beyond}
-use Rattle.moves.specs.Moves.{Pending, pending, stopped, settle, step, run, named, pendingVerdict, pendingPoints}
-use Rattle.moves.specs.Plan.{Near, Fair, origin, emptyPlan, planned, namedIn, laid, readPoint, keptPoint, latestPoint, currentPoint, notedIn, refusedIn, resultIn, takenIn, stepOf, walkOf}
-use Rattle.moves.specs.declared.Move.{Move}
-use Rattle.moves.specs.declared.Entry.{Entry}
-use Rattle.moves.specs.declared.Plan.{Plan}
-use Rattle.moves.proofs.Plans.{kept-self, step-refused, step-unknown, step-taken}
-use Rattle.moves.proofs.FairPlans.{empty-fair, step-fair}
-use Rattle.moves.proofs.Laid.{Each, Low, NearEntry, each-take, latest-laid, latest-near, laid-append, named-append, or-assoc, or-none}
+use Rattle.plan.specs.Moves.{Pending, pending, stopped, settle, step, run, named, pendingVerdict, pendingPoints}
+use Rattle.plan.specs.Plan.{Near, Fair, origin, emptyPlan, planned, namedIn, laid, readPoint, keptPoint, latestPoint, currentPoint, notedIn, refusedIn, resultIn, takenIn, stepOf, walkOf}
+use Rattle.plan.specs.declared.Move.{Move}
+use Rattle.plan.specs.declared.Entry.{Entry}
+use Rattle.plan.specs.declared.Plan.{Plan}
+use Rattle.plan.proofs.Plans.{kept-self, step-refused, step-unknown, step-taken}
+use Rattle.plan.proofs.FairPlans.{empty-fair, step-fair}
+use Rattle.plan.proofs.Laid.{Each, Low, NearEntry, each-take, latest-laid, latest-near, laid-append, named-append, or-assoc, or-none}
 
 pub record Means (n : ℕ) (ps : List ℤ) (ms : List Move) : Type 0 where
   pub verdict : walkOf ps ms (emptyPlan n) .verdict ≡ pendingVerdict (run n ms 0 (pending ps))

@@ -28,10 +28,10 @@ use Rattle.rings.specs.declared.Refusal.{Refusal}
 use Rattle.rings.specs.declared.Refusal.the-variants as refusal
 use Rattle.rings.specs.declared.Verdict.the-variants.{Accepted, Refused}
 use Rattle.rings.proofs.Checks.{within}
-use Rattle.moves.specs.Plan.{Near, origin, planned, readPoint, keptPoint, latestPoint, currentPoint, notedIn, refusedIn, resultIn, takenIn, stepOf}
-use Rattle.moves.specs.declared.Move.{Move}
-use Rattle.moves.specs.declared.Entry.{Entry}
-use Rattle.moves.specs.declared.Plan.{Plan}
+use Rattle.plan.specs.Plan.{Near, origin, planned, readPoint, keptPoint, latestPoint, currentPoint, notedIn, refusedIn, resultIn, takenIn, stepOf}
+use Rattle.plan.specs.declared.Move.{Move}
+use Rattle.plan.specs.declared.Entry.{Entry}
+use Rattle.plan.specs.declared.Plan.{Plan}
 
 pub latest-append : (es : List Entry) (e : Entry) (v : ℕ) (p : Point) → latestPoint (es ++ (e ∷ [])) v p ≡ cond (eqb (e .vertex) v) (e .point) (latestPoint es v p)
 unfolding latestPoint

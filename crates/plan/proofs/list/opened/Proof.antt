@@ -1,8 +1,8 @@
 -- `opened` meets its contract. Assumes nothing.
 use mathlib.Core.Path.{refl}
-use Rattle.moves.specs.Plan.{emptyPlan}
-use Rattle.moves.proofs.list.opened.Statement.{statement}
-use Rattle.moves.proofs.list.opened.Tie as tie
+use Rattle.plan.specs.Plan.{emptyPlan}
+use Rattle.plan.proofs.list.opened.Statement.{statement}
+use Rattle.plan.proofs.list.opened.Tie as tie
 
 returns : tie.Need-returns
 unfolding emptyPlan

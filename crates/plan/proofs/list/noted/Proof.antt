@@ -1,9 +1,9 @@
 -- `noted` meets its contract. Assumes nothing.
 use mathlib.Core.Path.{refl}
-use Rattle.moves.specs.Plan.{notedIn}
+use Rattle.plan.specs.Plan.{notedIn}
 use borrow.Author.Needs.{needs}
-use Rattle.moves.proofs.list.noted.Statement.{statement}
-use Rattle.moves.proofs.list.noted.Tie as tie
+use Rattle.plan.proofs.list.noted.Statement.{statement}
+use Rattle.plan.proofs.list.noted.Tie as tie
 
 mul-entries : tie.Need-mul-entries
 mul-entries c = search needs

@@ -4,11 +4,11 @@ use native.Mathlib.Omega.{arith}
 use lib.ListN.{length, take}
 use mathlib.Core.Path.{_≡_, refl, _∙_}
 use mathlib.Core.Logic.{⊎-elim}
-use Rattle.moves.proofs.Plans.{latest-hit, latest-miss}
-use Rattle.moves.specs.Plan.{latestPoint}
+use Rattle.plan.proofs.Plans.{latest-hit, latest-miss}
+use Rattle.plan.specs.Plan.{latestPoint}
 use Prim.Native.Nat.{_≤_, _<_, _-_}
-use Rattle.moves.proofs.list.latest.Statement.{statement}
-use Rattle.moves.proofs.list.latest.Tie as tie
+use Rattle.plan.proofs.list.latest.Statement.{statement}
+use Rattle.plan.proofs.list.latest.Tie as tie
 
 abbrev Inv-loop : tie.InvT-loop
 Inv-loop taken v entries point₀ k₀ point k = (k ≤ taken) × (point ≡ latestPoint (take k entries) v point₀)

@@ -18,10 +18,9 @@ use Rattle.units.specs.declared.Point.{Point}
 use Rattle.units.proofs.MoveCases.{point-is}
 use Rattle.rings.specs.Table.{put, coordinateAt, pointAt}
 use Rattle.rings.proofs.Tables.{length-put, put-more, put-within, put-before, put-behind}
-use Rattle.map.specs.Map.{including}
-use Rattle.moves.specs.Moves.{placed}
-use Rattle.moves.specs.Plan.{Near, namedIn, withNamed, laid, latestPoint}
-use Rattle.moves.specs.declared.Entry.{Entry}
+use Rattle.plan.specs.Moves.{placed}
+use Rattle.plan.specs.Plan.{Near, namedIn, withNamed, laid, latestPoint}
+use Rattle.plan.specs.declared.Entry.{Entry}
 
 -- ---- one point
 
@@ -130,30 +129,6 @@ pub or-none : (a : Bool) → a || false ≡ a
 or-none true = refl
 or-none false = refl
 
-or-true : (a b : Bool) → (a || true) || b ≡ true
-or-true true b = refl
-or-true false b = refl
-
 pub named-append : (es : List Entry) (e : Entry) (v : ℕ) → namedIn (es ++ (e ∷ [])) v ≡ namedIn es v || eqb (e .vertex) v
 named-append [] e v = or-none (eqb (e .vertex) v)
 named-append (a ∷ es) e v = ap (λ (b : Bool). eqb (a .vertex) v || b) (named-append es e v) ∙ sym (or-assoc (eqb (a .vertex) v) (namedIn es v) (eqb (e .vertex) v))
-
--- ---- one entry more
-
-module _ (es : List Entry) (k : ℕ) (d : Entry) (h : k < length es) where
-  pub laid-more : (ps : List ℤ) → placed (laid ps (take k es)) (getD es k d .vertex) (getD es k d .point) ≡ laid ps (take (k + 1) es)
-  laid-more ps = sym (rw (add-one, take-suc es k d h, laid-append))
-
-  named-at : (s : ℕ → Bool) (j : ℕ) → including (withNamed s (take k es)) (getD es k d .vertex) j ≡ withNamed s (take (k + 1) es) j
-  unfolding including withNamed
-  named-at s j = ⊎-elim
-      (λ e. rw (add-one, take-suc es k d h, named-append, e .0, eq-eqb (getD es k d .vertex) j (sym (e .1))) (sym (or-true (namedIn (take k es) j) (s j))))
-      (λ e. rw (add-one, take-suc es k d h, named-append, e .0, ne-eqb (getD es k d .vertex) j (λ q. e .1 (sym q)), or-none))
-      (eq-split j (getD es k d .vertex))
-
-  pub named-more : (s : ℕ → Bool) → including (withNamed s (take k es)) (getD es k d .vertex) ≡ withNamed s (take (k + 1) es)
-  named-more s = fun-ext (named-at s)
-
-pub named-none : (s : ℕ → Bool) → s ≡ withNamed s []
-unfolding withNamed
-named-none s = refl

@@ -2,10 +2,10 @@
 use mathlib.Core.Path.{_≡_, sym, _∙_}
 use Rattle.units.specs.Coordinate.{beyond}
 use Rattle.rings.proofs.Checks.{beyond-read}
-use Rattle.moves.proofs.Plans.{kept-x, kept-y, kept-z, kept-self}
+use Rattle.plan.proofs.Plans.{kept-x, kept-y, kept-z, kept-self}
 use borrow.Author.Needs.{needs}
-use Rattle.moves.proofs.list.kept.Statement.{statement}
-use Rattle.moves.proofs.list.kept.Tie as tie
+use Rattle.plan.proofs.list.kept.Statement.{statement}
+use Rattle.plan.proofs.list.kept.Tie as tie
 
 first : (c : tie.After-is-beyond) → c .is-beyond .result ≡ beyond (c .before .before .args .point .x)
 first c = beyond-read _ _ (c .before .struct-told .given .0 .1) (c .is-beyond .ensures)

@@ -27,10 +27,10 @@ use Rattle.rings.specs.declared.Refusal.{Refusal}
 use Rattle.rings.specs.declared.Refusal.the-variants as refusal
 use Rattle.rings.specs.declared.Verdict.{Verdict}
 use Rattle.rings.specs.declared.Verdict.the-variants.{Accepted, Refused}
-use Rattle.moves.specs.Plan.{Near, Fair, emptyPlan, currentPoint, notedIn, refusedIn, resultIn, takenIn, stepOf, walkOf}
-use Rattle.moves.specs.declared.Move.{Move}
-use Rattle.moves.specs.declared.Entry.{Entry}
-use Rattle.moves.specs.declared.Plan.{Plan}
+use Rattle.plan.specs.Plan.{Near, Fair, emptyPlan, currentPoint, notedIn, refusedIn, resultIn, takenIn, stepOf, walkOf}
+use Rattle.plan.specs.declared.Move.{Move}
+use Rattle.plan.specs.declared.Entry.{Entry}
+use Rattle.plan.specs.declared.Plan.{Plan}
 
 three : (a b c : Bool) → a && b && c ≡ true → T a × (T b × T c)
 three true true true e = (tt, (tt, tt))

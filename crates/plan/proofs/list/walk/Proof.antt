@@ -51,23 +51,23 @@ use denote.Triple.Spec.{Meets, tripleOf}
 use denote.Triple.Table.{entered, cited}
 use denote.Triple.Clauses.{ensured, lasts}
 use denote.Triple.Walked.{says, Stays, stay-none-slice, stay-none, walkOf as walkTriple, Walks, ends-at, walked, goes-none-slice, goes-none, walk-meets}
-use Rattle.moves.specs.Plan.{stepOf, walkOf}
+use Rattle.plan.specs.Plan.{stepOf, walkOf}
 use Rattle.units.specs.declared.Change.the-variants.{Place}
-use Rattle.moves.specs.declared.Move.{Move}
-use Rattle.moves.specs.declared.Plan.{Plan}
-use Rattle.moves.proofs.Move as T
-use Rattle.moves.proofs.Move.Laws as T′
-use Rattle.moves.proofs.Plan as S
-use Rattle.moves.proofs.Plan.Laws as S′
-use Rattle.moves.proofs.list.step as step
-use Rattle.moves.proofs.list.step.Symbol as step-def
-use Rattle.moves.proofs.list.step.Symbol.{name as #moves·step}
-use Rattle.moves.proofs.list.step.Met as step-thm
-use Rattle.moves.proofs.list.walk.Key.{name as #moves·walk}
-use Rattle.moves.proofs.list.walk as f
-use Rattle.moves.proofs.list.walk.Statement as stated
-use Rattle.moves.proofs.list.walk.Code as code
-use Rattle.moves.proofs.list.walk.Code.Mir as mir
+use Rattle.plan.specs.declared.Move.{Move}
+use Rattle.plan.specs.declared.Plan.{Plan}
+use Rattle.plan.proofs.Move as T
+use Rattle.plan.proofs.Move.Laws as T′
+use Rattle.plan.proofs.Plan as S
+use Rattle.plan.proofs.Plan.Laws as S′
+use Rattle.plan.proofs.list.step as step
+use Rattle.plan.proofs.list.step.Symbol as step-def
+use Rattle.plan.proofs.list.step.Symbol.{name as #plan·step}
+use Rattle.plan.proofs.list.step.Met as step-thm
+use Rattle.plan.proofs.list.walk.Key.{name as #plan·walk}
+use Rattle.plan.proofs.list.walk as f
+use Rattle.plan.proofs.list.walk.Statement as stated
+use Rattle.plan.proofs.list.walk.Code as code
+use Rattle.plan.proofs.list.walk.Code.Mir as mir
 
 abbrev stayed : Stays (f.ended .signature .params) (f.ended .kept)
 stayed = (stay-none-slice (0 ∷ []) tt (plain (λ _. T.the-row)) yes, (stay-none-slice (1 ∷ []) tt (plain (λ _. i32)) yes, (stay-none (λ _. S.the-row) yes, tt)))
@@ -197,7 +197,7 @@ module _ {M : Type 1} (𝓤 : URA M) (H : Heap 𝓤) (A : Atoms 𝓤) (W : Given
   Nearer-wf : WellFounded Nearer
   Nearer-wf = InvImage·wf (λ (k : X). n - k .i) (Nat·lt-wfRel .wf)
 
-  module _ (𝓣 : Tables 𝓤 H) (known : Triple 𝓤 (𝓣 .C #moves·step) (Step 𝓤 H A mem run)) (l₀ l₁ l₂ l₃ l₄ l₅ l₆ l₇ l₈ l₉ : ℕ) where
+  module _ (𝓣 : Tables 𝓤 H) (known : Triple 𝓤 (𝓣 .C #plan·step) (Step 𝓤 H A mem run)) (l₀ l₁ l₂ l₃ l₄ l₅ l₆ l₇ l₈ l₉ : ℕ) where
     abbrev C : Calls 𝓤 H
     C = 𝓣 .C
 
@@ -281,7 +281,7 @@ module _ {M : Type 1} (𝓤 : URA M) (H : Heap 𝓤) (A : Atoms 𝓤) (W : Given
     looped : Sq W (At (record { i = 0; s = s₀; u = u₀; le = zero-le; is = is₀; so = refl })) (runs C Λ En mir.t-3 (atRet En Post))
     looped = first ! $ blocks ! $ loops ! 𝓣 Nearer Nearer-wf At turns (record { i = 0; s = s₀; u = u₀; le = zero-le; is = is₀; so = refl })
 
-  walk : (𝓣 : Tables 𝓤 H) → Triple 𝓤 (𝓣 .C #moves·step) (Step 𝓤 H A mem run) → ent 𝓤 (onEntry 𝓤 H A f.signature κs (q, (q′, tt)) x at) (WpFn 𝓤 H (𝓣 .C) (𝓣 .Λ) code.function (vl ∷ vt ∷ u₀ ∷ []) Post)
+  walk : (𝓣 : Tables 𝓤 H) → Triple 𝓤 (𝓣 .C #plan·step) (Step 𝓤 H A mem run) → ent 𝓤 (onEntry 𝓤 H A f.signature κs (q, (q′, tt)) x at) (WpFn 𝓤 H (𝓣 .C) (𝓣 .Λ) code.function (vl ∷ vt ∷ u₀ ∷ []) Post)
   walk 𝓣 known =
       qed W ((‵ (flft κ q) ⊛ ‵ (flft κ′ q′) ⊛ ‵ ftrue) ∷ ‵ (owns (ShrSlice (named 0) κ T.the-row ∷ ShrSlice (named 1) κ′ i32 ∷ S.the-row ∷ []) x at) ∷ []) ∵ enter ! (𝓣 .C) (𝓣 .Λ) code.function (vl ∷ vt ∷ u₀ ∷ []) _ $
       alloc1 ! (λ l₀. alloc1 ! (λ l₁. alloc1 ! (λ l₂. alloc1 ! (λ l₃. alloc1 ! (λ l₄. alloc1 ! (λ l₅. alloc1 ! (λ l₆. alloc1 ! (λ l₇. alloc1 ! (λ l₈. alloc1 ! (λ l₉. alloc0 ! $ params1 ! $
@@ -296,7 +296,7 @@ module _ {M : Type 1} (𝓤 : URA M) (H : Heap 𝓤) (A : Atoms 𝓤) (W : Given
       typed₀ : Holds (hasTy S′.mir u₀) × WT u₀
       typed₀ = LL.lawful S.the-type S′.the-laws 𝓤 H A W .typed s₀ _ is₀ .0
 
-module _ {M : Type 1} (𝓤 : URA M) (H : Heap 𝓤) (A : Atoms 𝓤) (W : Given 𝓤 H A) (mem : Memory → SProp 𝓤) (run : Routine → Fun 𝓤) (𝓣 : Tables 𝓤 H) (known : Triple 𝓤 (𝓣 .C #moves·step) (Step 𝓤 H A mem run)) where
+module _ {M : Type 1} (𝓤 : URA M) (H : Heap 𝓤) (A : Atoms 𝓤) (W : Given 𝓤 H A) (mem : Memory → SProp 𝓤) (run : Routine → Fun 𝓤) (𝓣 : Tables 𝓤 H) (known : Triple 𝓤 (𝓣 .C #plan·step) (Step 𝓤 H A mem run)) where
   walks : Walks 𝓤 H A f.ended stayed (WpFn 𝓤 H (𝓣 .C) (𝓣 .Λ) code.function) (f.clauses 𝓤 H A mem run)
   walks = walked 𝓤 H A f.ended stayed (f.clauses 𝓤 H A mem run) (WpFn 𝓤 H (𝓣 .C) (𝓣 .Λ) code.function)
       (λ κs. (slice-vals, (slice-vals, (LL.vals S.the-type S′.the-laws, tt)))) (λ κs. (shr-slice-tells (named 0) (κs .0) T.the-row, (shr-slice-tells (named 1) (κs .1 .0) i32, (LL.tells S.the-type S′.the-laws, tt))))
@@ -310,6 +310,6 @@ pub walk-spec : {M : Type 1} → stated.statement M
 unfolding code.routine tablesOf
 walk-spec 𝓤 H 𝓜 𝓖 𝓡 =
     entered 𝓤 H (tripleOf 𝓤 H (𝓖 .A) f.signature (f.spec 𝓤 H (𝓖 .A) (𝓜 .mem) (𝓡 .run)))
-    (tables 𝓤 H 𝓜 𝓡 code.env .C) (tables 𝓤 H 𝓜 𝓡 code.env .Λ) #moves·walk code.function (code.unfolded 𝓤 H 𝓜 𝓡)
+    (tables 𝓤 H 𝓜 𝓡 code.env .C) (tables 𝓤 H 𝓜 𝓡 code.env .Λ) #plan·walk code.function (code.unfolded 𝓤 H 𝓜 𝓡)
     (meets 𝓤 H (𝓖 .A) (givenOf 𝓤 H 𝓜 𝓖) (𝓜 .mem) (𝓡 .run) (tablesOf 𝓤 H 𝓜 (tables 𝓤 H 𝓜 𝓡 code.env))
-    (cited 𝓤 H (Step 𝓤 H (𝓖 .A) (𝓜 .mem) (𝓡 .run)) 𝓜 𝓡 code.env #moves·step step-def.routine code.calls-moves·list·step (step-thm.met 𝓤 H 𝓜 𝓖 𝓡)))
+    (cited 𝓤 H (Step 𝓤 H (𝓖 .A) (𝓜 .mem) (𝓡 .run)) 𝓜 𝓡 code.env #plan·step step-def.routine code.calls-plan·list·step (step-thm.met 𝓤 H 𝓜 𝓖 𝓡)))

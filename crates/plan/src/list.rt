@@ -3,7 +3,7 @@ ghost use mathlib.Core.Path.{_≡_};
 ghost use Prim.Native.Nat.{_≤_, _<_};
 ghost use lib.ListN.{take};
 ghost use Rattle.units.specs.Coordinate.{InRange};
-ghost use Rattle.moves.specs.Plan.{emptyPlan, readPoint, keptPoint, latestPoint, currentPoint, notedIn, refusedIn, takenIn, stepOf, walkOf};
+ghost use Rattle.plan.specs.Plan.{emptyPlan, readPoint, keptPoint, latestPoint, currentPoint, notedIn, refusedIn, takenIn, stepOf, walkOf};
 use super::Entry;
 use super::MOST_MOVES;
 use super::Move;

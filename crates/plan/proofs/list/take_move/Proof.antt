@@ -4,12 +4,12 @@ use denote.Ref.{now}
 use Rattle.units.specs.declared.Point.{Point}
 use Rattle.units.specs.declared.Moved.the-variants.{At, NotFinite, Outside}
 use Rattle.rings.specs.declared.Refusal.the-variants as refusal
-use Rattle.moves.specs.declared.Plan.{Plan}
-use Rattle.moves.specs.Plan.{notedIn, refusedIn, takenIn}
-use Rattle.moves.proofs.Plans.{kept-near, taken-at, taken-unfit, taken-outside}
+use Rattle.plan.specs.declared.Plan.{Plan}
+use Rattle.plan.specs.Plan.{notedIn, refusedIn, takenIn}
+use Rattle.plan.proofs.Plans.{kept-near, taken-at, taken-unfit, taken-outside}
 use borrow.Author.Needs.{needs}
-use Rattle.moves.proofs.list.take_move.Statement.{statement}
-use Rattle.moves.proofs.list.take_move.Tie as tie
+use Rattle.plan.proofs.list.take_move.Statement.{statement}
+use Rattle.plan.proofs.list.take_move.Tie as tie
 
 -- the three outcomes, where the move's result is known
 module _ (c : tie.After-moved-point) (t : Plan) where

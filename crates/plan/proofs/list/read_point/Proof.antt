@@ -1,8 +1,8 @@
 -- `read_point` meets its contract. Assumes nothing.
-use Rattle.moves.proofs.Plans.{read-there, read-behind}
+use Rattle.plan.proofs.Plans.{read-there, read-behind}
 use borrow.Author.Needs.{needs}
-use Rattle.moves.proofs.list.read_point.Statement.{statement}
-use Rattle.moves.proofs.list.read_point.Tie as tie
+use Rattle.plan.proofs.list.read_point.Statement.{statement}
+use Rattle.plan.proofs.list.read_point.Tie as tie
 
 mul-a : tie.Need-mul-a
 mul-a c = search needs

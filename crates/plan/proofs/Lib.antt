@@ -1,0 +1,7 @@
+-- Laws of plans: what a step does, which plans are fair, and that a plan means what its list means.
+pub mod Plans
+pub mod FairPlans
+pub mod Laid
+pub mod PlansMeanMoves
+-- what the proofs of functions that are lent a slice of structs share
+pub mod Shared
