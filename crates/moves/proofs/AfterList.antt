@@ -1,7 +1,7 @@
 -- The positions after an accepted list of moves, vertex by vertex: the moved control points, and each level refreshed. Assumes nothing.
 use Prim.Native.Nat.{ℕ, zero, suc, _+_, _*_, _≤_, _<_}
-use mathlib.Core.Path.{_≡_, refl, sym, ap, ap₂, subst, _∙_}
-use mathlib.Core.Bool.{Bool, true, false, cond}
+use mathlib.Core.Path.{_≡_, refl, sym, ap, ap₂, _∙_}
+use mathlib.Core.Bool.{Bool, false, cond}
 use mathlib.Core.List.{List, [], _∷_}
 use native.Mathlib.Nat.{zero-add}
 use native.Mathlib.Omega.{arith}
@@ -12,14 +12,13 @@ use borrow.Author.Tests.{ltb-false}
 use Rattle.mesh.specs.Search.{sum}
 use Rattle.mesh.specs.Mesh.{Mesh, edges}
 use Rattle.mesh.specs.Refine.{level}
-use Rattle.mesh.specs.Mask.{Steps, Grounded, byMask, touched, refreshed}
+use Rattle.mesh.specs.Mask.{Steps, Grounded, touched, refreshed}
 use Rattle.mesh.specs.Loop.{loop}
 use Rattle.mesh.proofs.Levels.{loop-grounded}
 use Rattle.mesh.proofs.Refresh.{byMask-same}
-use Rattle.rings.specs.Table.{gather, put, rows, coordinateAt, pointRows}
-use Rattle.rings.specs.Verdict.{andThen, after}
+use Rattle.rings.specs.Table.{rows, coordinateAt, pointRows}
+use Rattle.rings.specs.Verdict.{after}
 use Rattle.rings.specs.declared.Refusal.{Refusal}
-use Rattle.rings.specs.declared.Verdict.{Verdict}
 use Rattle.rings.specs.declared.Verdict.the-variants.{Accepted, Refused}
 use Rattle.rings.proofs.Verdicts.{if-accepted, then-accepted}
 use Rattle.map.specs.Map.{wordCount}

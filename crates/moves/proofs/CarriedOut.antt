@@ -1,18 +1,17 @@
 -- A plan carried out on a judged stack: what the refresh asks for holds, and what the map, the count and the positions then are. Assumes nothing.
 use Prim.Native.Nat.{ℕ, zero, suc, _+_, _*_, _≤_, _<_}
-use mathlib.Core.Path.{_≡_, refl, sym, ap, ap₂, subst, _∙_}
-use mathlib.Core.Bool.{Bool, true, false, _||_, _&&_}
+use mathlib.Core.Path.{_≡_, refl, sym, ap, subst, _∙_}
+use mathlib.Core.Bool.{Bool, true, false, _||_}
 use mathlib.Core.List.{List, [], _∷_}
 use mathlib.Core.Logic.{⊎-elim}
 use native.Mathlib.Omega.{arith}
-use lib.Dec.{ltb, eqb}
-use lib.IntN.{ℤ, pos}
-use lib.ListN.{length, getD, drop}
+use lib.Dec.{eqb}
+use lib.IntN.{ℤ}
+use lib.ListN.{length, getD}
 use lib.Seq.{getD-drop}
 use borrow.Author.Tests.{lt-ltb, le-ltb, ne-eqb}
 use Rattle.mesh.specs.Mesh.{Mesh, edges}
 use Rattle.mesh.specs.Refine.{level}
-use Rattle.mesh.specs.Mask.{touched, touchedCount}
 use Rattle.mesh.specs.Loop.{loop}
 use Rattle.mesh.proofs.First.{or-both}
 use Rattle.mesh.proofs.Lists.{lt-split}
@@ -20,8 +19,8 @@ use Rattle.mesh.proofs.Levels.{loop-grounded}
 use Rattle.mesh.proofs.TouchedPoints.{count-same}
 use Rattle.units.specs.Coordinate.{InRange}
 use Rattle.units.specs.declared.Point.{Point}
-use Rattle.rings.specs.Table.{put, rows, coordinateAt, pointAt}
-use Rattle.map.specs.Map.{marked, wordCount, mapWords, members, emptied, Words}
+use Rattle.rings.specs.Table.{rows, coordinateAt, pointAt}
+use Rattle.map.specs.Map.{marked, wordCount, members, emptied, Words}
 use Rattle.map.proofs.Sets.{emptied-in, emptied-out, map-is}
 use Rattle.refine.specs.Stack.{levelCount, levelStart, stackCount}
 use Rattle.refine.specs.Accepts.{AcceptsStack}

@@ -1,13 +1,13 @@
 -- What a list of moves does to the control points: only named vertices change, and the table keeps its length. Assumes nothing.
-use Prim.Native.Nat.{ℕ, zero, suc, _+_, _*_, _≤_, _<_}
-use mathlib.Core.Path.{_≡_, refl, sym, ap, _∙_}
-use mathlib.Core.Bool.{Bool, true, false, cond, _||_}
+use Prim.Native.Nat.{ℕ, suc, _+_, _*_, _≤_, _<_}
+use mathlib.Core.Path.{_≡_, refl, sym, _∙_}
+use mathlib.Core.Bool.{Bool, false, _||_}
 use mathlib.Core.List.{List, [], _∷_}
 use mathlib.Core.Logic.{⊎-elim}
 use native.Mathlib.Omega.{arith}
-use lib.Dec.{leb, eqb}
+use lib.Dec.{eqb}
 use lib.IntN.{ℤ, pos}
-use lib.ListN.{length, getD}
+use lib.ListN.{length}
 use borrow.Author.Tests.{eqb-false, ne-eqb}
 use Rattle.mesh.proofs.First.{or-false, or-both}
 use Rattle.mesh.proofs.Lists.{lt-split, le-split}
@@ -16,7 +16,7 @@ use Rattle.units.specs.Millimetres.{mmOf}
 use Rattle.units.specs.declared.Point.{Point}
 use Rattle.units.specs.declared.Moved.{Moved}
 use Rattle.units.specs.declared.Moved.the-variants.{At, NotFinite, Outside}
-use Rattle.rings.specs.Table.{put, coordinateAt, pointAt}
+use Rattle.rings.specs.Table.{coordinateAt, pointAt}
 use Rattle.rings.specs.declared.Refusal.{Refusal}
 use Rattle.rings.proofs.Tables.{length-put, put-before, put-behind}
 use Rattle.plan.specs.Moves.{Pending, pending, stopped, placed, settle, step, run, named}

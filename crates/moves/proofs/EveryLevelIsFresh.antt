@@ -3,15 +3,13 @@
 -- After each, every coordinate of every level is what a fresh refinement of the control points as they now are gives.
 -- And an accepted list leaves every point as it was that it does not name and that no mask leads from a named one to.
 -- Assumes nothing.
-use Prim.Native.Nat.{ℕ, zero, suc, _+_, _*_, _≤_, _<_}
-use mathlib.Core.Path.{_≡_, refl, sym, ap, ap₂, subst, _∙_}
-use mathlib.Core.Bool.{Bool, true, false}
+use Prim.Native.Nat.{ℕ, zero, suc, _+_, _≤_, _<_}
+use mathlib.Core.Path.{_≡_, refl, sym, ap, subst, _∙_}
+use mathlib.Core.Bool.{false}
 use mathlib.Core.List.{List, [], _∷_}
 use native.Mathlib.Nat.{zero-add}
 use native.Mathlib.Omega.{arith}
-use lib.IntN.{ℤ, pos}
-use lib.ListN.{length, getD, drop}
-use Rattle.mesh.specs.Search.{sum}
+use lib.IntN.{ℤ}
 use Rattle.mesh.specs.Mesh.{Mesh, edges}
 use Rattle.mesh.specs.Refine.{level}
 use Rattle.mesh.specs.Mask.{touched, refined, refreshed}

@@ -1,7 +1,7 @@
 -- What is judged before the first move: what each outcome of the judging function shows, and what an accepted judgement tells of the stack and the map. Assumes nothing.
-use Prim.Native.Nat.{ℕ, zero, suc, _+_, _*_, _/_, _≤_, _<_}
-use mathlib.Core.Path.{_≡_, refl, sym, ap, ap₂, _∙_}
-use mathlib.Core.Bool.{Bool, true, false}
+use Prim.Native.Nat.{ℕ, zero, suc, _*_, _/_, _≤_, _<_}
+use mathlib.Core.Path.{_≡_, refl, sym, ap, _∙_}
+use mathlib.Core.Bool.{true, false}
 use mathlib.Core.List.{List}
 use native.Mathlib.Nat.{suc-mul}
 use native.Mathlib.Omega.{arith}
@@ -11,12 +11,11 @@ use lib.ListN.{length, getD}
 use borrow.Author.Tests.{lt-ltb, le-ltb, ltb-false}
 use Rattle.mesh.specs.Search.{sum, first}
 use Rattle.mesh.specs.Mesh.{edges}
-use Rattle.mesh.proofs.First.{Clear, first-clear, first-end, none-some, some-lt, some-not}
+use Rattle.mesh.proofs.First.{first-end}
 use Rattle.rings.specs.Table.{rows}
-use Rattle.rings.specs.Verdict.{refuseIf, refuseAt, andThen}
+use Rattle.rings.specs.Verdict.{andThen}
 use Rattle.rings.specs.declared.Refusal.{Refusal}
 use Rattle.rings.specs.declared.Refusal.the-variants.{NoRoom, NotAsRefined, TooManyMoves}
-use Rattle.rings.specs.declared.Verdict.{Verdict}
 use Rattle.rings.specs.declared.Verdict.the-variants.{Accepted, Refused}
 use Rattle.rings.proofs.Verdicts.{if-hit, if-pass, at-hit, at-pass, if-accepted, at-accepted, then-accepted}
 use Rattle.map.specs.Map.{wordCount}

@@ -1,9 +1,9 @@
 -- An accepted list marks exactly the touched points of the stack, those it names and those that depend on them through the masks,
 -- and what it answers is their number: the ones in the map (section "Moves").
 -- Assumes nothing.
-use Prim.Native.Nat.{ℕ, suc, _+_, _*_, _≤_, _<_}
-use mathlib.Core.Path.{_≡_, refl, sym, ap, ap₂, _∙_}
-use mathlib.Core.Bool.{Bool, true, false, _&&_}
+use Prim.Native.Nat.{ℕ, _+_, _*_, _≤_, _<_}
+use mathlib.Core.Path.{_≡_, sym, ap, ap₂, _∙_}
+use mathlib.Core.Bool.{_&&_}
 use mathlib.Core.List.{List}
 use native.Mathlib.Omega.{arith}
 use lib.Dec.{ltb}
@@ -18,10 +18,10 @@ use Rattle.rings.specs.Table.{put, rows}
 use Rattle.rings.specs.Verdict.{after, withAmount}
 use Rattle.rings.specs.declared.Verdict.the-variants.{Accepted}
 use Rattle.rings.specs.declared.Amount.the-variants.{Of}
-use Rattle.map.specs.Map.{marked, wordCount, mapWords, members, onesIn, Words}
+use Rattle.map.specs.Map.{marked, wordCount, mapWords, onesIn, Words}
 use Rattle.map.proofs.Bits.{members-same}
 use Rattle.map.proofs.Sets.{ones-members, words-after, marked-first}
-use Rattle.refine.specs.Stack.{levelStart, stackCount, levelOf, numberIn}
+use Rattle.refine.specs.Stack.{levelStart, stackCount}
 use Rattle.refine.proofs.Sizes.{level-count}
 use Rattle.refine.proofs.StackVertices.{vertex-in, level-of, number-in}
 use Rattle.as_refined.specs.Expected.{whole}

@@ -1,5 +1,5 @@
 -- The outcomes of settling a plan, and that settling the plan of a list is the call with the list. Assumes nothing.
-use Prim.Native.Nat.{ℕ, _*_, _≤_, _<_}
+use Prim.Native.Nat.{ℕ}
 use mathlib.Core.Path.{_≡_, refl, sym, ap, ap₂, subst, _∙_}
 use mathlib.Core.Bool.{Bool}
 use mathlib.Core.List.{List}
@@ -14,14 +14,14 @@ use Rattle.rings.specs.declared.Amount.{Amount}
 use Rattle.rings.specs.declared.Amount.the-variants as amount
 use Rattle.rings.specs.declared.Amount.the-variants.{Of}
 use Rattle.refresh.specs.Stack.{refreshedPositions}
-use Rattle.plan.specs.Moves.{Pending, pending, run, named, pendingVerdict, pendingPoints}
+use Rattle.plan.specs.Moves.{named, pendingVerdict}
 use Rattle.moves.specs.Apply.{beforeMoves, touchedTotal, touchedMap, moved, movedControl, applyVerdict, applyAnswer, applyPositions, applyMap}
 use Rattle.plan.specs.Plan.{emptyPlan, planned, laid, namedIn, walkOf}
 use Rattle.moves.specs.Settle.{settleVerdict, settleAnswer, settlePositions, settleMap}
 use Rattle.plan.specs.declared.Plan.{Plan}
 use Rattle.plan.specs.declared.Move.{Move}
 use Rattle.plan.proofs.FairPlans.{walk-count}
-use Rattle.moves.proofs.Judging.{Judged, judged}
+use Rattle.moves.proofs.Judging.{judged}
 use Rattle.plan.proofs.PlansMeanMoves.{Means, plan-means}
 
 module _ (plan : Plan) (moves levels : ℕ) (vs rs : List ℕ) (ps : List ℤ) (map : List ℕ) where

@@ -1,33 +1,19 @@
 // An accepted plan carried out on the control mesh: its points are set, and its vertices are marked.
 ghost use mathlib.Core.Path.{_≡_};
-ghost use Prim.Native.Nat.{_+_, _*_, _≤_};
+ghost use Prim.Native.Nat.{_*_, _≤_};
 ghost use lib.ListN.{length};
 ghost use Rattle.map.specs.Map.{marked};
-ghost use Rattle.plan.specs.Moves.{placed};
 ghost use Rattle.plan.specs.Plan.{Fair, planned, laid, withNamed};
+use level::points::set_point;
 use map::mark;
 use plan::Plan;
-use units::Point;
-
-// Sets v's point.
-fn set_point(positions: &mut [i32], v: usize, point: Point)
-    requires { ⌜ v * 3 + 3 ≤ length (now positions) ⌝ }
-    ensures { λ _. ⌜ now (positions .exit) ≡ placed (now (positions .entry)) v point ⌝ }
-{
-    let a = v * 3;
-    let x = point.x;
-    let y = point.y;
-    let z = point.z;
-    positions[a] = x;
-    positions[a + 1] = y;
-    positions[a + 2] = z;
-}
 
 // Sets the points of a plan's entries, in order, and marks their vertices.
 pub fn write_control(positions: &mut [i32], map: &mut [u32], plan: Plan)
     requires { ⌜ Fair plan ⌝ }
     requires { ⌜ plan .count * 3 ≤ length (now positions) ⌝ }
     requires { ⌜ plan .count ≤ length (now map) * 32 ⌝ }
+    requires { ⌜ plan .count ≤ 1048576 ⌝ }
     ensures { λ _. ⌜ now (positions .exit) ≡ laid (now (positions .entry)) (planned plan) ⌝ }
     ensures { λ _. ⌜ marked (now (map .exit)) ≡ withNamed (marked (now (map .entry))) (planned plan) ⌝ }
 {

@@ -1,33 +1,25 @@
 -- Entries laid over the positions: what each of them changes, and where a vertex then is.
 -- Assumes nothing.
-use mathlib.Core.Path.{_≡_, refl, sym, ap, _∙_, fun-ext}
+use mathlib.Core.Path.{_≡_, refl, sym, ap, _∙_}
 use mathlib.Core.Bool.{Bool, true, false, cond, _||_}
 use mathlib.Core.List.{List, [], _∷_, _++_}
 use mathlib.Core.Logic.{⊎-elim, _≢_}
 use Prim.Native.Nat.{ℕ, zero, suc, _+_, _*_, _≤_, _<_}
 use native.Mathlib.Nat.{not-suc-le-zero, le-of-suc-le-suc}
-use native.Mathlib.Numerals.{add-one}
 use native.Mathlib.Omega.{arith}
-use borrow.Author.Tests.{eq-eqb, ne-eqb}
 use lib.Dec.{eqb}
 use lib.IntN.{ℤ, pos}
-use lib.ListN.{length, getD, take, drop, set, length-set}
-use lib.Seq.{set-split, take-suc}
+use lib.ListN.{length, getD, take}
 use Rattle.mesh.proofs.Lists.{eq-split, lt-split}
 use Rattle.units.specs.declared.Point.{Point}
 use Rattle.units.proofs.MoveCases.{point-is}
-use Rattle.rings.specs.Table.{put, coordinateAt, pointAt}
-use Rattle.rings.proofs.Tables.{length-put, put-more, put-within, put-before, put-behind}
+use Rattle.rings.specs.Table.{coordinateAt, pointAt}
+use Rattle.rings.proofs.Tables.{length-put, put-within, put-before, put-behind}
 use Rattle.plan.specs.Moves.{placed}
-use Rattle.plan.specs.Plan.{Near, namedIn, withNamed, laid, latestPoint}
+use Rattle.plan.specs.Plan.{Near, namedIn, laid, latestPoint}
 use Rattle.plan.specs.declared.Entry.{Entry}
 
 -- ---- one point
-
--- one item stored
-set-put : (t : List ℤ) (i : ℕ) (a : ℤ) → i < length t → set t i a ≡ put t i (a ∷ [])
-unfolding put
-set-put t i a h = set-split t i a h ∙ ap (λ (k : ℕ). take i t ++ a ∷ drop k t) (sym (add-one i))
 
 module _ (ps : List ℤ) (u : ℕ) (p : Point) (fits : u * 3 + 3 ≤ length ps) where
   pub length-placed : length (placed ps u p) ≡ length ps
@@ -41,18 +33,6 @@ module _ (ps : List ℤ) (u : ℕ) (p : Point) (fits : u * 3 + 3 ≤ length ps) 
       (put-within ps (u * 3) (p .x ∷ p .y ∷ p .z ∷ []) fits (pos 0) 0 (omega arith))
       (put-within ps (u * 3) (p .x ∷ p .y ∷ p .z ∷ []) fits (pos 0) 1 (omega arith))
       (put-within ps (u * 3) (p .x ∷ p .y ∷ p .z ∷ []) fits (pos 0) 2 (omega arith))
-
-  -- its three coordinates, stored one after the other
-  stored-point : set (set (set ps (u * 3) (p .x)) (u * 3 + 1) (p .y)) (u * 3 + 2) (p .z) ≡ placed ps u p
-  unfolding placed
-  stored-point =
-      let l : length (set ps (u * 3) (p .x)) ≡ length ps = length-set ps (u * 3) (p .x) in
-      set-put (set (set ps (u * 3) (p .x)) (u * 3 + 1) (p .y)) (u * 3 + 2) (p .z) (simp length-set (omega arith))
-      ∙ ap (λ (t : List ℤ). put t (u * 3 + 2) (p .z ∷ [])) (set-put (set ps (u * 3) (p .x)) (u * 3 + 1) (p .y) (omega arith) ∙ ap (λ (t : List ℤ). put t (u * 3 + 1) (p .y ∷ [])) (set-put ps (u * 3) (p .x) (omega arith)) ∙ put-more ps (u * 3) (p .x ∷ []) (omega arith) (p .y ∷ []) (omega arith))
-      ∙ put-more ps (u * 3) (p .x ∷ p .y ∷ []) (omega arith) (p .z ∷ []) (omega arith)
-
-  pub stored-read : (x y z : ℤ) → x ≡ p .x → y ≡ p .y → z ≡ p .z → set (set (set ps (u * 3) x) (u * 3 + 1) y) (u * 3 + 2) z ≡ placed ps u p
-  stored-read x y z ex ey ez = rw (ex, ey, ez) stored-point
 
   module _ (v : ℕ) (other : u ≢ v) where
     coordinate-other : (axis : ℕ) → axis < 3 → coordinateAt (placed ps u p) axis v ≡ coordinateAt ps axis v

@@ -1,14 +1,13 @@
 -- `carry_out` meets its contract. Assumes nothing.
-use mathlib.Core.Path.{_≡_, sym, ap, _∙_}
+use mathlib.Core.Path.{_≡_, _∙_}
 use Rattle.as_refined.specs.Expected.{whole}
 use Rattle.plan.specs.Plan.{planned}
 use Rattle.moves.proofs.Judging.{Judged, judged, edges-asked, edges-are, whole-is, whole-small}
-use Rattle.moves.proofs.CarriedOut.{fair-low, fair-near, laid-long, stack-ready, control-in-map, map-ready, counted, positions-after, map-marked}
+use Rattle.moves.proofs.CarriedOut.{fair-low, fair-near, stack-ready, control-in-map, map-ready, counted, positions-after, map-marked}
 use borrow.Author.Needs.{needs}
 use native.Mathlib.Omega.{arith}
-use lib.ListN.{length, length-set}
-use Prim.Native.Nat.{_≤_, _<_, _+_, _-_}
-use borrow.Author.Needs.{needs}
+use lib.ListN.{length}
+use Prim.Native.Nat.{_-_}
 use Rattle.moves.proofs.call.carry_out.Statement.{statement}
 use Rattle.moves.proofs.call.carry_out.Tie as tie
 
@@ -30,7 +29,7 @@ clear-requires : tie.Need-clear-requires
 clear-requires c κs = let w = whole-counted (c .before) in let s = whole-small (judgement (c .before .before .before .before .before .before) .stack) in let r = judgement (c .before .before .before .before .before .before) .room in (omega arith, omega arith)
 
 write-control-requires : tie.Need-write-control-requires
-write-control-requires c κs = let s = c .before .before .before .before .before .before .before .before .before .before .before in let j = judgement s in let low = fair-low (s .args .plan) (s .pre .0) in let near = fair-near (s .args .plan) (s .pre .0) in let n = control-in-map j (planned (s .args .plan)) low near in let r = j .room in (s .pre .0, (j .stack .control .points, omega (arith, c .before .before .before .before .clear .kept .0)))
+write-control-requires c κs = let s = c .before .before .before .before .before .before .before .before .before .before .before in let j = judgement s in let low = fair-low (s .args .plan) (s .pre .0) in let near = fair-near (s .args .plan) (s .pre .0) in let n = control-in-map j (planned (s .args .plan)) low near in let r = j .room in (s .pre .0, (j .stack .control .points, (omega (arith, c .before .before .before .before .clear .kept .0), omega (arith, edges-asked (j .stack) .1))))
 
 refresh-levels-requires : tie.Need-refresh-levels-requires
 refresh-levels-requires c κs = let s = c .before .before .before .before .before .before .before .before .before .before .before .before .before .before .before .before .before in let j = judgement s in let low = fair-low (s .args .plan) (s .pre .0) in let near = fair-near (s .args .plan) (s .pre .0) in let n = control-in-map j (planned (s .args .plan)) low near in let r = j .room in let cleared = rw (whole-counted (c .before .before .before .before .before .before .before .before .before .before .before .before)) at (c .before .before .before .before .before .before .before .before .before .before .clear .ensures) in (rw (c .before .before .before .before .before .write-control .ensures .0) (stack-ready j (planned (s .args .plan)) low near _ (edges-are (j .stack) _ (c .before .before .before .before .before .before .before .before .before .before .before .before .before .edge-count .ensures .0))), map-ready j (planned (s .args .plan)) low near _ _ _ cleared (c .before .before .before .before .before .write-control .ensures .1) (omega (arith, c .before .before .before .before .before .before .before .before .before .before .clear .kept .0, c .before .before .before .before .before .write-control .kept .1)))

@@ -8,9 +8,7 @@ use Rattle.as_refined.specs.Expected.{whole}
 use Rattle.moves.proofs.Judging.{edges-asked, edges-are, whole-is, whole-small, before-stack, before-words, before-strange, before-many, before-accepted}
 use borrow.Author.Needs.{needs}
 use native.Mathlib.Omega.{arith}
-use lib.ListN.{length, length-set}
-use Prim.Native.Nat.{_≤_, _<_, _+_, _-_}
-use borrow.Author.Needs.{needs}
+use Prim.Native.Nat.{_-_}
 use Rattle.moves.proofs.call.judge_before.Statement.{statement}
 use Rattle.moves.proofs.call.judge_before.Tie as tie
 

@@ -4,10 +4,8 @@ use Rattle.rings.specs.declared.Verdict.the-variants.{Accepted}
 use Rattle.moves.specs.Apply.{beforeMoves}
 use Rattle.moves.proofs.Settled.{settle-stopped, settle-unplanned, settle-done}
 use borrow.Author.Needs.{needs}
-use native.Mathlib.Omega.{arith}
-use lib.ListN.{length, length-set}
-use Prim.Native.Nat.{_≤_, _<_, _+_, _-_}
-use borrow.Author.Needs.{needs}
+use lib.ListN.{length}
+use Prim.Native.Nat.{_-_}
 use Rattle.moves.proofs.call.settle.Statement.{statement}
 use Rattle.moves.proofs.call.settle.Tie as tie
 

@@ -37,14 +37,14 @@ set-point-requires c κs =
     let b = c .before .before .before .before .before in
     let st = b .before .before .before in
     let low : getD (st .args .plan .entries) (b .loop .k) blank .vertex < st .args .plan .count = st .pre .0 .below (b .loop .k) (c .before .before .before .before .loop-test .taken) blank in
-    omega (arith, st .pre .1 .0, b .loop .inv .1 .0)
+    (omega (arith, st .pre .1 .1 .1), omega (arith, st .pre .1 .0, b .loop .inv .1 .0))
 
 mark-requires : tie.Need-mark-requires Inv-loop μ-loop
 mark-requires c κs =
     let b = c .before .before .before .before .before .before .before .before in
     let st = b .before .before .before in
     let low : getD (st .args .plan .entries) (b .loop .k) blank .vertex < st .args .plan .count = st .pre .0 .below (b .loop .k) (c .before .before .before .before .before .before .before .loop-test .taken) blank in
-    omega (arith, st .pre .1 .1, b .loop .inv .1 .1 .0)
+    omega (arith, st .pre .1 .1 .0, b .loop .inv .1 .1 .0)
 
 add-k : tie.Need-add-k Inv-loop μ-loop
 add-k c = search needs
@@ -53,6 +53,7 @@ loop-less : tie.Need-loop-less Inv-loop μ-loop
 loop-less c = search needs
 
 loop-again : tie.Need-loop-again Inv-loop μ-loop
+unfolding placed
 loop-again c =
     let m = c .before .before in
     let p = m .before .before .before in
