@@ -1,13 +1,17 @@
 // The check: reasons 2, 1, 4, 5, 6 and 7, each over all vertices before the next.
 ghost use mathlib.Core.Path.{_≡_};
+ghost use mathlib.Core.Bool.{false};
 ghost use Prim.Native.Nat.{_+_, _*_, _≤_, _<_};
 ghost use lib.ListN.{length, getD};
 ghost use Rattle.mesh.specs.Search.{sum, first};
 ghost use Rattle.mesh.specs.Tests.{lacksAt, oneSided, openAt, openFaced};
 ghost use Rattle.units.specs.Coordinate.{beyond};
 ghost use Rattle.rings.specs.Table.{rows};
-ghost use Rattle.rings.specs.Check.{unfitRow, beyondAt, checkVerdict, checkAnswer};
+ghost use Rattle.rings.specs.Verdict.{refuseAt};
+ghost use Rattle.rings.specs.Check.{badCount, shortTables, unfitRow, beyondAt, checkVerdict, checkAnswer};
 ghost use Rattle.rings.specs.Accepts.{Room, Fit};
+ghost use Rattle.rings.specs.declared.Refusal.the-variants.{TooFar};
+ghost use Rattle.rings.specs.declared.Verdict.the-variants.{Accepted};
 use super::Counted;
 use super::LEAST_UNITS;
 use super::LEAST_VALENCE;
@@ -17,6 +21,7 @@ use super::Verdict;
 use super::ring::follows_in;
 use super::ring::is_there;
 use super::ring::place_after;
+use super::sound::is_sound;
 use super::table::is_bad_count;
 use super::table::is_improper;
 use super::table::is_short;
@@ -198,16 +203,24 @@ pub fn valence_sum(valences: &[u16], count: usize) -> usize
     sum
 }
 
-// The check's verdict: the rings are sound and the coordinates in range, or the first reason against it with its lowest vertex.
-pub fn judge(valences: &[u16], rings: &[u16], positions: &[i32], count: usize) -> Verdict
+// Reason 7, and what is judged after it: nothing.
+fn judge_positions(positions: &[i32], count: usize) -> Verdict
+    requires { ⌜ count * 3 ≤ length (now positions) ⌝ }
+    ensures { λ r. ⌜ r ≡ refuseAt (beyondAt (now (positions .entry))) count TooFar Accepted ⌝ }
+{
+    let far = first_beyond(positions, count);
+    if far < count {
+        return Verdict::Refused(Refusal::TooFar(far));
+    }
+    Verdict::Accepted
+}
+
+// Reasons 4 to 7, each over all vertices before the next.
+fn judge_each(valences: &[u16], rings: &[u16], positions: &[i32], count: usize) -> Verdict
+    requires { ⌜ badCount count ≡ false ⌝ }
+    requires { ⌜ shortTables count (now valences) (now rings) (now positions) ≡ false ⌝ }
     ensures { λ r. ⌜ r ≡ checkVerdict count (now (valences .entry)) (now (rings .entry)) (now (positions .entry)) ⌝ }
 {
-    if is_bad_count(count) {
-        return Verdict::Refused(Refusal::BadCount);
-    }
-    if is_short(valences, rings, positions, count) {
-        return Verdict::Refused(Refusal::ControlTooShort);
-    }
     let unfit = first_unfit(valences, rings, count);
     if unfit < count {
         return Verdict::Refused(Refusal::ImproperRing(unfit));
@@ -220,11 +233,24 @@ pub fn judge(valences: &[u16], rings: &[u16], positions: &[i32], count: usize) -
     if open < count {
         return Verdict::Refused(Refusal::OpenFace(open));
     }
-    let far = first_beyond(positions, count);
-    if far < count {
-        return Verdict::Refused(Refusal::TooFar(far));
+    judge_positions(positions, count)
+}
+
+// The check's verdict: the rings are sound and the coordinates in range, or the first reason against it with its lowest vertex.
+// Rings that the quick pass finds sound are not judged again.
+pub fn judge(valences: &[u16], rings: &[u16], positions: &[i32], count: usize) -> Verdict
+    ensures { λ r. ⌜ r ≡ checkVerdict count (now (valences .entry)) (now (rings .entry)) (now (positions .entry)) ⌝ }
+{
+    if is_bad_count(count) {
+        return Verdict::Refused(Refusal::BadCount);
     }
-    Verdict::Accepted
+    if is_short(valences, rings, positions, count) {
+        return Verdict::Refused(Refusal::ControlTooShort);
+    }
+    if is_sound(valences, rings, count) {
+        return judge_positions(positions, count);
+    }
+    judge_each(valences, rings, positions, count)
 }
 
 // The check, with V, E and F.

@@ -2,6 +2,7 @@
 pub mod check;
 pub mod reasons;
 pub mod ring;
+pub mod sound;
 pub mod table;
 
 // The limits that the code names.

@@ -62,13 +62,14 @@ pub fn place_before(n: usize, i: usize) -> usize
 pub fn follows_in(ring: &[u16], x: usize, y: usize) -> bool
     ensures { λ r. ⌜ r ≡ follows (now (ring .entry)) x y ⌝ }
 {
-    let i = seek(ring, x);
-    if i < ring.len() {
-        let j = place_after(ring.len(), i);
-        ring[j] as usize == y
-    } else {
-        false
+    let mut i = 0;
+    while i < ring.len() {
+        if ring[i] as usize == x {
+            return ring[place_after(ring.len(), i)] as usize == y;
+        }
+        i += 1;
     }
+    false
 }
 
 // Is the number at place i of v's ring no vertex, v itself, or a repeat?
