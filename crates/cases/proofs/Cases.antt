@@ -17,8 +17,8 @@ use Rattle.units.specs.Move.{fit, settledAt, movedTo}
 use Rattle.rings.specs.Table.{put, ringOf, rows, padded, valenceRows, ringRows, coordinateAt, pointAt, pointRows}
 use Rattle.rings.specs.Verdict.{refuseIf, refuseAt, andThen, after, withCounts, withAmount}
 use Rattle.rings.specs.Check.{badCount, shortRings, shortTables, improperRow, unfitRow, beyondAt, checkVerdict, checkAnswer}
-use Rattle.ring_calls.specs.Calls.{tableVerdict, callVerdict}
-use Rattle.ring_calls.specs.Queries.{withNeighbour, nextAnswer}
+use Rattle.ring_judge.specs.Judging.{tableVerdict, callVerdict}
+use Rattle.ring_query.specs.Queries.{withNeighbour, nextAnswer}
 use Rattle.refine.specs.Stack.{levelStart, stackCount, levelOf, numberIn, badLevels, tooLarge, shortStack}
 use Rattle.refine.specs.Refinement.{stackedValences, stackedRings, stackedPositions, stackVerdict, refineAnswer, refineValences, refineRings, refinePositions}
 use Rattle.plan.specs.Moves.{placed, step}

@@ -19,10 +19,10 @@ use Rattle.units.specs.declared.Change.the-variants.{Place, Shift}
 use Rattle.units.specs.declared.Moved.the-variants.{At, Outside}
 use Rattle.rings.specs.Refusal.{accepted, refused}
 use Rattle.rings.specs.Paper.{paperCounted, paperAmount}
-use Rattle.ring_calls.specs.Paper.{paperNeighbour}
+use Rattle.ring_query.specs.Paper.{paperNeighbour}
 use Rattle.rings.specs.Table.{coordinateAt}
 use Rattle.rings.specs.Check.{checkAnswer}
-use Rattle.ring_calls.specs.Queries.{nextAnswer}
+use Rattle.ring_query.specs.Queries.{nextAnswer}
 use Rattle.refine.specs.Refinement.{refineAnswer, refinePositions}
 use Rattle.moves.specs.Apply.{applyAnswer, applyMap}
 use Rattle.listing_text.specs.Listing.{refinedText}

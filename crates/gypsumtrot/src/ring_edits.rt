@@ -1,16 +1,16 @@
 // The edits of a vertex's ring.
 ghost use mathlib.Core.Path.{_≡_};
 ghost use Rattle.rings.specs.Paper.{paperVerdict};
-ghost use Rattle.ring_calls.specs.Calls.{makeEdit, eraseEdit, replaceEdit, insertAfterEdit, insertBeforeEdit};
-ghost use Rattle.ring_calls.specs.Edit.{valencesAfter, ringsAfter};
+ghost use Rattle.ring_edit.specs.Calls.{makeEdit, eraseEdit, replaceEdit, insertAfterEdit, insertBeforeEdit};
+ghost use Rattle.ring_row.specs.Edit.{valencesAfter, ringsAfter};
 ghost use Rattle.gypsumtrot.specs.Crossing.{valuePaper};
 use super::ValueAnswer;
 use super::answers::of_verdict;
-use ring_calls::edits::erase;
-use ring_calls::edits::insert_after;
-use ring_calls::edits::insert_before;
-use ring_calls::edits::make;
-use ring_calls::edits::replace;
+use ring_edit::edits::erase;
+use ring_edit::edits::insert_after;
+use ring_edit::edits::insert_before;
+use ring_edit::edits::make;
+use ring_edit::edits::replace;
 
 // Sets the ring of v to a list.
 #[no_mangle]

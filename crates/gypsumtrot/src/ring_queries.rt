@@ -1,17 +1,17 @@
 // The queries of a vertex's ring.
 ghost use mathlib.Core.Path.{_≡_};
 ghost use Rattle.rings.specs.Paper.{paperAmount};
-ghost use Rattle.ring_calls.specs.Paper.{paperAnswer, paperNeighbour};
-ghost use Rattle.ring_calls.specs.Queries.{valenceAnswer, containsAnswer, nextAnswer, prevAnswer};
+ghost use Rattle.ring_query.specs.Paper.{paperAnswer, paperNeighbour};
+ghost use Rattle.ring_query.specs.Queries.{valenceAnswer, containsAnswer, nextAnswer, prevAnswer};
 ghost use Rattle.gypsumtrot.specs.Crossing.{valuePaper};
 use super::ValueAnswer;
 use super::answers::of_amount;
 use super::answers::of_answer;
 use super::answers::of_neighbour;
-use ring_calls::queries::contains;
-use ring_calls::queries::next;
-use ring_calls::queries::prev;
-use ring_calls::queries::valence;
+use ring_query::queries::contains;
+use ring_query::queries::next;
+use ring_query::queries::prev;
+use ring_query::queries::valence;
 
 // The valence of v.
 #[no_mangle]

@@ -8,7 +8,7 @@ use lib.IntN.{ℤ}
 use Rattle.rings.specs.Paper.{paperAmount, paperVerdict}
 use Rattle.rings.specs.declared.Verdict.{Verdict}
 use Rattle.rings.specs.declared.Amount.{Amount}
-use Rattle.ring_calls.specs.Edit.{Edit}
+use Rattle.ring_row.specs.Edit.{Edit}
 use Rattle.plan.specs.declared.Move.{Move}
 use Rattle.outcomes.specs.Outcomes.{Answers, Edited, Applied, ReadIn, WrittenOut, Listed}
 

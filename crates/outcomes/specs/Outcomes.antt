@@ -9,7 +9,7 @@ use lib.ListN.{length}
 use Rattle.rings.specs.declared.Verdict.{Verdict}
 use Rattle.rings.specs.declared.Amount.{Amount}
 use Rattle.rings.specs.Table.{put}
-use Rattle.ring_calls.specs.Edit.{Edit, valencesAfter, ringsAfter}
+use Rattle.ring_row.specs.Edit.{Edit, valencesAfter, ringsAfter}
 use Rattle.moves.specs.Apply.{applyAnswer, applyPositions, applyMap}
 use Rattle.plan.specs.declared.Move.{Move}
 use Rattle.meshfile.specs.Read.{readAnswer, readValences, readRings, readPositions}

@@ -3,7 +3,7 @@ use borrow.Author.Needs.{needs}
 use Rattle.gypsumtrot.proofs.answers.of_answer.Statement.{statement}
 use Rattle.gypsumtrot.proofs.answers.of_answer.Tie as tie
 use mathlib.Core.Path.{sym}
-use Rattle.ring_calls.specs.Paper.{paperAnswer}
+use Rattle.ring_query.specs.Paper.{paperAnswer}
 use Rattle.gypsumtrot.proofs.Crossed.{through}
 
 enum-told : tie.Need-enum-told

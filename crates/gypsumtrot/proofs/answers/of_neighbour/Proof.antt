@@ -3,7 +3,7 @@ use borrow.Author.Needs.{needs}
 use Rattle.gypsumtrot.proofs.answers.of_neighbour.Statement.{statement}
 use Rattle.gypsumtrot.proofs.answers.of_neighbour.Tie as tie
 use mathlib.Core.Path.{sym}
-use Rattle.ring_calls.specs.Paper.{paperNeighbour}
+use Rattle.ring_query.specs.Paper.{paperNeighbour}
 use Rattle.gypsumtrot.proofs.Crossed.{through}
 
 enum-known-answer : tie.Need-enum-known-answer

@@ -2,7 +2,7 @@
 use borrow.Author.Needs.{needs}
 use Rattle.gypsumtrot.proofs.ring_queries.gt_contains.Statement.{statement}
 use Rattle.gypsumtrot.proofs.ring_queries.gt_contains.Tie as tie
-use Rattle.ring_calls.specs.Paper.{paperAnswer}
+use Rattle.ring_query.specs.Paper.{paperAnswer}
 use Rattle.gypsumtrot.proofs.Crossed.{through}
 
 contains-requires : tie.Need-contains-requires

@@ -2,7 +2,7 @@
 use borrow.Author.Needs.{needs}
 use Rattle.gypsumtrot.proofs.ring_queries.gt_next.Statement.{statement}
 use Rattle.gypsumtrot.proofs.ring_queries.gt_next.Tie as tie
-use Rattle.ring_calls.specs.Paper.{paperNeighbour}
+use Rattle.ring_query.specs.Paper.{paperNeighbour}
 use Rattle.gypsumtrot.proofs.Crossed.{through}
 
 next-requires : tie.Need-next-requires

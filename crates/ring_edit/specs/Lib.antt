@@ -1,0 +1,3 @@
+-- The ring edits.
+pub mod Calls
+pub mod AnyEdit

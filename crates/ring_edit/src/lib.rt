@@ -1,0 +1,2 @@
+// The edits of one vertex's ring in the lent tables.
+pub mod edits;

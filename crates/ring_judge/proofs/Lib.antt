@@ -1,0 +1,2 @@
+-- Laws on what the ring calls judge.
+pub mod Judged

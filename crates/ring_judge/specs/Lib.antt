@@ -1,0 +1,2 @@
+-- What the ring calls judge.
+pub mod Judging

@@ -1,0 +1,100 @@
+// What a ring call judges before it does anything, in document 01's order.
+ghost use mathlib.Core.Path.{_≡_};
+ghost use lib.ListN.{length};
+ghost use Rattle.mesh.specs.Search.{first};
+ghost use Rattle.ring_judge.specs.Judging.{tableVerdict, callVerdict, entryVerdict, unknownAt, makeVerdict};
+use rings::MOST_VALENCE;
+use rings::Refusal;
+use rings::Verdict;
+use rings::ring::has_bad;
+use rings::ring::is_there;
+use rings::table::is_bad_count;
+use rings::table::is_improper;
+use rings::table::is_short_rings;
+use rings::table::ring_of;
+
+// Every ring call: 2, 1, and 3 for v.
+pub fn judge_tables(valences: &[u16], rings: &[u16], count: usize, v: usize) -> Verdict
+    ensures { λ r. ⌜ r ≡ tableVerdict count (now (valences .entry)) (now (rings .entry)) v ⌝ }
+{
+    if is_bad_count(count) {
+        return Verdict::Refused(Refusal::BadCount);
+    }
+    if is_short_rings(valences, rings, count) {
+        return Verdict::Refused(Refusal::ControlTooShort);
+    }
+    if count <= v {
+        return Verdict::Refused(Refusal::NoVertex(0));
+    }
+    Verdict::Accepted
+}
+
+// All but a make: also 4 for v's ring.
+pub fn judge_call(valences: &[u16], rings: &[u16], count: usize, v: usize) -> Verdict
+    ensures { λ r. ⌜ r ≡ callVerdict count (now (valences .entry)) (now (rings .entry)) v ⌝ }
+{
+    match judge_tables(valences, rings, count, v) {
+        Verdict::Refused(r) => Verdict::Refused(r),
+        Verdict::Accepted => {
+            if is_improper(valences, rings, count, v) {
+                return Verdict::Refused(Refusal::ImproperRing(v));
+            }
+            Verdict::Accepted
+        }
+    }
+}
+
+// A replacing and an inserting: also 3 and 15 for x.
+pub fn judge_entry(valences: &[u16], rings: &[u16], count: usize, v: usize, x: usize) -> Verdict
+    ensures { λ r. ⌜ r ≡ entryVerdict count (now (valences .entry)) (now (rings .entry)) v x ⌝ }
+{
+    match judge_call(valences, rings, count, v) {
+        Verdict::Refused(r) => Verdict::Refused(r),
+        Verdict::Accepted => {
+            if count <= x {
+                return Verdict::Refused(Refusal::NoVertex(0));
+            }
+            if x == v {
+                return Verdict::Refused(Refusal::AlreadyThere);
+            }
+            if is_there(ring_of(valences, rings, v), x) {
+                return Verdict::Refused(Refusal::AlreadyThere);
+            }
+            Verdict::Accepted
+        }
+    }
+}
+
+// The first place of a list at which no vertex stands, or the list's length.
+fn first_unknown(list: &[u16], count: usize) -> usize
+    ensures { λ r. ⌜ r ≡ first (unknownAt count (now (list .entry))) (length (now (list .entry))) ⌝ }
+{
+    let mut i = 0;
+    while i < list.len() {
+        if count <= list[i] as usize {
+            return i;
+        }
+        i += 1;
+    }
+    i
+}
+
+// A make: 16, 3 and 15 for the list; v's old ring is not judged.
+pub fn judge_make(valences: &[u16], rings: &[u16], count: usize, v: usize, list: &[u16]) -> Verdict
+    ensures { λ r. ⌜ r ≡ makeVerdict count (now (valences .entry)) (now (rings .entry)) v (now (list .entry)) ⌝ }
+{
+    if let Verdict::Refused(r) = judge_tables(valences, rings, count, v) {
+        return Verdict::Refused(r);
+    }
+    if MOST_VALENCE < list.len() {
+        return Verdict::Refused(Refusal::RingFull);
+    }
+    let i = first_unknown(list, count);
+    if i < list.len() {
+        return Verdict::Refused(Refusal::NoVertex(i));
+    }
+    if has_bad(list, v, count) {
+        return Verdict::Refused(Refusal::AlreadyThere);
+    }
+    Verdict::Accepted
+}

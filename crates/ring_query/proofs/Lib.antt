@@ -1,0 +1,2 @@
+-- Laws on the queries.
+pub mod QueryAnswers

@@ -1,0 +1,3 @@
+-- Laws on one row and the two tables after an edit.
+pub mod RowWritten
+pub mod TablesWritten
