@@ -1,3 +1,2 @@
--- Laws on what crosses the C interface.
-pub mod Crossed
-pub mod RecordKinds
+-- Laws on a list of moves as one call.
+pub mod RecordLists

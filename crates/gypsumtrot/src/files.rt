@@ -3,9 +3,9 @@ ghost use mathlib.Core.Path.{_≡_};
 ghost use Rattle.rings.specs.Paper.{paperAmount};
 ghost use Rattle.meshfile.specs.Read.{readAnswer, readValences, readRings, readPositions};
 ghost use Rattle.meshfile.specs.Write.{writeAnswer, writeRoom};
-ghost use Rattle.gypsumtrot.specs.Crossing.{valuePaper};
-use super::ValueAnswer;
-use super::answers::of_amount;
+ghost use Rattle.crossing.specs.Crossing.{valuePaper};
+use crossing::ValueAnswer;
+use crossing::answers::of_amount;
 use meshfile::reading::read;
 use meshfile::writing::write;
 

@@ -3,9 +3,9 @@ ghost use mathlib.Core.Path.{_≡_};
 ghost use Rattle.rings.specs.Check.{checkAnswer};
 ghost use Rattle.rings.specs.Paper.{paperCounted};
 ghost use Rattle.refine.specs.Refinement.{refineAnswer, refineValences, refineRings, refinePositions};
-ghost use Rattle.gypsumtrot.specs.Crossing.{countsPaper};
-use super::CountsAnswer;
-use super::answers::of_counted;
+ghost use Rattle.crossing.specs.Crossing.{countsPaper};
+use crossing::CountsAnswer;
+use crossing::answers::of_counted;
 use refine::refine;
 use rings::check::check;
 

@@ -3,7 +3,7 @@ use borrow.Author.Needs.{needs}
 use Rattle.gypsumtrot.proofs.ring_edits.gt_insert_after.Statement.{statement}
 use Rattle.gypsumtrot.proofs.ring_edits.gt_insert_after.Tie as tie
 use Rattle.rings.specs.Paper.{paperVerdict}
-use Rattle.gypsumtrot.proofs.Crossed.{through}
+use Rattle.crossing.proofs.Crossed.{through}
 
 insert-after-requires : tie.Need-insert-after-requires
 insert-after-requires c κs = search needs

@@ -1,0 +1,92 @@
+// A list of moves as it crosses the C interface: a table of plain records, worked out into a plan.
+ghost use mathlib.Core.Path.{_≡_};
+ghost use Rattle.plan.specs.Plan.{stepOf, walkOf};
+ghost use Rattle.crossing.specs.Crossing.{valuePaper};
+ghost use Rattle.crossing.specs.Records.{moveOf, movesOf, byKind, byKinds};
+use super::MoveRecord;
+use super::NO_SUCH_VERTEX;
+use super::NO_VERTEX;
+use super::PLACE;
+use super::SHIFT;
+use super::STRETCH;
+use super::UNKNOWN_KIND;
+use super::ValueAnswer;
+use plan::Move;
+use plan::Plan;
+use plan::list::step;
+use units::Change;
+
+// The move that a record means; one of an unknown kind is of a vertex that no mesh has.
+fn move_of(item: MoveRecord) -> Move
+    ensures { λ r. ⌜ r ≡ moveOf item ⌝ }
+{
+    if item.kind == PLACE {
+        return Move {
+            vertex: item.vertex,
+            change: Change::Place(item.x, item.y, item.z),
+        };
+    }
+    if item.kind == SHIFT {
+        return Move {
+            vertex: item.vertex,
+            change: Change::Shift(item.x, item.y, item.z),
+        };
+    }
+    if item.kind == STRETCH {
+        return Move {
+            vertex: item.vertex,
+            change: Change::Stretch(item.x, item.y, item.z),
+        };
+    }
+    Move {
+        vertex: NO_VERTEX,
+        change: Change::Place(item.x, item.y, item.z),
+    }
+}
+
+// One record's move.
+fn step_record(positions: &[i32], plan: Plan, item: MoveRecord) -> Plan
+    ensures { λ r. ⌜ r ≡ stepOf (now (positions .entry)) plan (moveOf item) ⌝ }
+{
+    step(positions, plan, move_of(item))
+}
+
+// The records' moves in order: one thin loop over `step_record`.
+pub fn walk_records(list: &[MoveRecord], positions: &[i32], start: Plan) -> Plan
+    ensures { λ r. ⌜ r ≡ walkOf (now (positions .entry)) (movesOf (now (list .entry))) start ⌝ }
+{
+    let mut plan = start;
+    let mut i = 0;
+    while i < list.len() {
+        plan = step_record(positions, plan, list[i]);
+        i += 1;
+    }
+    plan
+}
+
+// The answer of a list whose record at the answer's place is this one: 99 in place of 3 where its kind is unknown.
+fn by_kind(answer: ValueAnswer, item: MoveRecord) -> ValueAnswer
+    ensures { λ r. ⌜ valuePaper r ≡ byKind (item .kind) (valuePaper answer) ⌝ }
+{
+    if STRETCH < item.kind {
+        if answer.number == NO_SUCH_VERTEX {
+            return ValueAnswer {
+                number: UNKNOWN_KIND,
+                place: answer.place,
+                value: 0,
+            };
+        }
+    }
+    answer
+}
+
+// The answer of a list of records whose moves answer this: one thin look at the record at the answer's place.
+pub fn by_kinds(list: &[MoveRecord], answer: ValueAnswer) -> ValueAnswer
+    ensures { λ r. ⌜ valuePaper r ≡ byKinds (now (list .entry)) (valuePaper answer) ⌝ }
+{
+    let place = answer.place;
+    if list.len() <= place {
+        return answer;
+    }
+    by_kind(answer, list[place])
+}

@@ -1,0 +1,42 @@
+-- A list of records, worked out into a plan, settled and answered by the kinds, is the call with its moves. Assumes nothing.
+use Prim.Native.Nat.{ℕ}
+use mathlib.Core.Path.{_≡_, ap, subst, _∙_}
+use mathlib.Core.List.{List}
+use lib.IntN.{ℤ}
+use lib.ListN.{length, length-map}
+use Rattle.rings.specs.Refusal.{Paper}
+use Rattle.rings.specs.Paper.{paperAmount}
+use Rattle.moves.specs.Apply.{applyAnswer, applyPositions, applyMap}
+use Rattle.plan.specs.Plan.{emptyPlan, walkOf}
+use Rattle.moves.specs.Settle.{settleAnswer, settlePositions, settleMap}
+use Rattle.plan.specs.declared.Plan.{Plan}
+use Rattle.moves.proofs.Settled.{settle-is-apply}
+use Rattle.crossing.specs.Records.{moveOf, movesOf, byKinds, recordsAnswer}
+use Rattle.crossing.specs.declared.MoveRecord.{MoveRecord}
+
+module _ (n levels : ℕ) (vs rs : List ℕ) (ps : List ℤ) (words : List ℕ) (list : List MoveRecord) where
+  abbrev planned : Plan
+  planned = walkOf ps (movesOf list) (emptyPlan n)
+
+  -- settling the plan, for so many moves, is the call with the moves
+  abbrev Same : ℕ → Type 0
+  Same moves = (settleAnswer planned moves levels vs rs ps words ≡ applyAnswer n levels vs rs ps words (movesOf list))
+      × (settlePositions planned moves levels vs rs ps words ≡ applyPositions n levels vs rs ps words (movesOf list))
+      × (settleMap planned moves levels vs rs ps words ≡ applyMap n levels vs rs ps words (movesOf list))
+
+  same : Same (length list)
+  same = subst Same (length-map list moveOf) (settle-is-apply n levels vs rs ps words (movesOf list))
+
+  -- the plan s of the list, settled with this answer, these positions and this map, and the answer by the kinds
+  pub records-settled : {s : Plan} {p r : Paper} {positions : List ℤ} {marks : List ℕ} → s ≡ planned
+      → p ≡ paperAmount (settleAnswer s (length list) levels vs rs ps words)
+      → positions ≡ settlePositions s (length list) levels vs rs ps words
+      → marks ≡ settleMap s (length list) levels vs rs ps words
+      → r ≡ byKinds list p
+      → (r ≡ recordsAnswer n levels vs rs ps words list) × (positions ≡ applyPositions n levels vs rs ps words (movesOf list)) × (marks ≡ applyMap n levels vs rs ps words (movesOf list))
+  unfolding recordsAnswer
+  records-settled {s} {p} {r} {positions} {marks} h a b c e = (
+    e ∙ ap (byKinds list) (a ∙ ap (λ (t : Plan). paperAmount (settleAnswer t (length list) levels vs rs ps words)) h ∙ ap paperAmount (same .0)),
+    b ∙ ap (λ (t : Plan). settlePositions t (length list) levels vs rs ps words) h ∙ same .1,
+    c ∙ ap (λ (t : Plan). settleMap t (length list) levels vs rs ps words) h ∙ same .2,
+  )

@@ -1,0 +1,60 @@
+// A list of moves on a refined stack.
+ghost use mathlib.Core.Path.{_≡_};
+ghost use Rattle.rings.specs.Paper.{paperAmount};
+ghost use Rattle.moves.specs.Apply.{applyPositions, applyMap};
+ghost use Rattle.plan.specs.Plan.{Fair};
+ghost use Rattle.moves.specs.Settle.{settleAnswer, settlePositions, settleMap};
+ghost use Rattle.crossing.specs.Crossing.{valuePaper};
+ghost use Rattle.crossing.specs.Records.{movesOf, recordsAnswer};
+use crossing::MoveRecord;
+use crossing::ValueAnswer;
+use crossing::answers::of_amount;
+use crossing::records::by_kinds;
+use crossing::records::walk_records;
+use plan::Plan;
+use moves::call::settle;
+use plan::list::opened;
+
+// What is done with the plan of a list.
+fn settle_records(
+    plan: Plan,
+    moves: usize,
+    valences: &[u16],
+    rings: &[u16],
+    positions: &mut [i32],
+    map: &mut [u32],
+    levels: usize,
+) -> ValueAnswer
+    requires { ⌜ Fair plan ⌝ }
+    ensures { λ r. ⌜ (valuePaper r ≡ paperAmount (settleAnswer plan moves levels (now (valences .entry)) (now (rings .entry)) (now (positions .entry)) (now (map .entry)))) × (now (positions .exit) ≡ settlePositions plan moves levels (now (valences .entry)) (now (rings .entry)) (now (positions .entry)) (now (map .entry))) × (now (map .exit) ≡ settleMap plan moves levels (now (valences .entry)) (now (rings .entry)) (now (positions .entry)) (now (map .entry))) ⌝ }
+{
+    of_amount(settle(plan, moves, valences, rings, positions, map, levels))
+}
+
+// A list of moves on a refined stack: every point that depends on a moved one is set and marked, and
+// no other.
+#[no_mangle]
+pub extern "C" fn gt_moves(
+    valences: &[u16],
+    rings: &[u16],
+    positions: &mut [i32],
+    map: &mut [u32],
+    count: usize,
+    levels: usize,
+    list: &[MoveRecord],
+) -> ValueAnswer
+    ensures { λ r. ⌜ (valuePaper r ≡ recordsAnswer count levels (now (valences .entry)) (now (rings .entry)) (now (positions .entry)) (now (map .entry)) (now (list .entry))) × (now (positions .exit) ≡ applyPositions count levels (now (valences .entry)) (now (rings .entry)) (now (positions .entry)) (now (map .entry)) (movesOf (now (list .entry)))) × (now (map .exit) ≡ applyMap count levels (now (valences .entry)) (now (rings .entry)) (now (positions .entry)) (now (map .entry)) (movesOf (now (list .entry)))) ⌝ }
+{
+    by_kinds(
+        list,
+        settle_records(
+            walk_records(list, positions, opened(count)),
+            list.len(),
+            valences,
+            rings,
+            positions,
+            map,
+            levels,
+        ),
+    )
+}
