@@ -1,12 +1,12 @@
 -- What each edit promises of its answer and of the two tables, once x or a was looked for. Assumes nothing.
-use Prim.Native.Nat.{ℕ, _+_}
+use Prim.Native.Nat.{ℕ, suc, _+_}
 use mathlib.Core.Path.{_≡_, sym}
 use mathlib.Core.Bool.{true, false}
 use mathlib.Core.List.{List}
-use native.Mathlib.Numerals.{add-one}
+use native.Mathlib.Omega.{arith}
 use lib.Dec.{leb}
 use lib.ListN.{getD, set}
-use Rattle.mesh.specs.Ring.{has, placeOf}
+use Rattle.mesh.specs.Ring.{has, place, placeOf}
 use Rattle.mesh.specs.Edits.{closed, erase, replace, insertAfter, insertBefore}
 use Rattle.mesh.specs.declared.Place.the-variants.{At, Absent}
 use Rattle.mesh.proofs.Places.{placed, absent}
@@ -21,6 +21,7 @@ use Rattle.ring_row.specs.Places.{openEdit}
 use Rattle.ring_row.specs.Edit.{Edit, valencesWith, ringsWith, valencesAfter, ringsAfter}
 use Rattle.ring_row.proofs.TablesWritten.{edit-idle, edit-done}
 use Rattle.ring_edit.specs.Calls.{eraseEdit, replaceEdit, insertVerdict, insertAfterEdit, insertBeforeEdit}
+use Rattle.ring_edit.specs.Beside.{besideEdit}
 
 -- what a call promises
 abbrev pub Promised : Edit → List ℕ → List ℕ → ℕ → Verdict → List ℕ → List ℕ → Type 0
@@ -63,25 +64,30 @@ module _ (n : ℕ) (vs rs : List ℕ) (v : ℕ) where
     unfolding insertVerdict andThen
     insert-room h = rw (← e, h)
 
-    pub after-idle : Absent ≡ placeOf a (ringOf vs rs v) → Promised (insertAfterEdit n vs rs v a x) vs rs v Accepted rs vs
-    unfolding insertAfterEdit
-    after-idle q = let h = absent a (ringOf vs rs v) q in let k = insert-accepted h in (k, edit-idle vs rs v (insertAfterEdit n vs rs v a x) k h)
+    pub beside-idle : (behind : ℕ) → Absent ≡ placeOf a (ringOf vs rs v) → Promised (besideEdit n vs rs v a x behind) vs rs v Accepted rs vs
+    unfolding besideEdit
+    beside-idle behind q = let h = absent a (ringOf vs rs v) q in let k = insert-accepted h in (k, edit-idle vs rs v (besideEdit n vs rs v a x behind) k h)
 
-    pub before-idle : Absent ≡ placeOf a (ringOf vs rs v) → Promised (insertBeforeEdit n vs rs v a x) vs rs v Accepted rs vs
-    unfolding insertBeforeEdit
-    before-idle q = let h = absent a (ringOf vs rs v) q in let k = insert-accepted h in (k, edit-idle vs rs v (insertBeforeEdit n vs rs v a x) k h)
+    module _ (behind i : ℕ) (q : At i ≡ placeOf a (ringOf vs rs v)) where
+      beside-same : openEdit vs rs v (behind + i) x ≡ besideEdit n vs rs v a x behind
+      unfolding openEdit besideEdit
+      beside-same = let p = placed a (ringOf vs rs v) i q in rw (← insert-room (p .0), p .0, ← p .1)
 
-    module _ (i : ℕ) (q : At i ≡ placeOf a (ringOf vs rs v)) where
-      after-same : openEdit vs rs v (i + 1) x ≡ insertAfterEdit n vs rs v a x
-      unfolding openEdit insertAfterEdit insertAfter
-      after-same = let p = placed a (ringOf vs rs v) i q in rw (← insert-room (p .0), p .0, ← p .1, add-one)
+      pub beside-done : (r : Verdict) (rs′ vs′ : List ℕ) → Promised (openEdit vs rs v (behind + i) x) vs rs v r rs′ vs′ → Promised (besideEdit n vs rs v a x behind) vs rs v r rs′ vs′
+      beside-done r rs′ vs′ h = rw beside-same at h
 
-      before-same : openEdit vs rs v i x ≡ insertBeforeEdit n vs rs v a x
-      unfolding openEdit insertBeforeEdit insertBefore
-      before-same = let p = placed a (ringOf vs rs v) i q in rw (← insert-room (p .0), p .0, ← p .1)
+  module _ (a x : ℕ) where
+    after-same : besideEdit n vs rs v a x 1 ≡ insertAfterEdit n vs rs v a x
+    unfolding besideEdit insertAfterEdit insertAfter
+    after-same = let k : 1 + place a (ringOf vs rs v) ≡ suc (place a (ringOf vs rs v)) = omega arith in rw k
 
-      pub after-done : (r : Verdict) (rs′ vs′ : List ℕ) → Promised (openEdit vs rs v (i + 1) x) vs rs v r rs′ vs′ → Promised (insertAfterEdit n vs rs v a x) vs rs v r rs′ vs′
-      after-done r rs′ vs′ h = rw after-same at h
+    before-same : besideEdit n vs rs v a x 0 ≡ insertBeforeEdit n vs rs v a x
+    unfolding besideEdit insertBeforeEdit insertBefore
+    before-same = let k : 0 + place a (ringOf vs rs v) ≡ place a (ringOf vs rs v) = omega arith in rw k
 
-      pub before-done : (r : Verdict) (rs′ vs′ : List ℕ) → Promised (openEdit vs rs v i x) vs rs v r rs′ vs′ → Promised (insertBeforeEdit n vs rs v a x) vs rs v r rs′ vs′
-      before-done r rs′ vs′ h = rw before-same at h
+    module _ (r : Verdict) (rs′ vs′ : List ℕ) where
+      pub after-told : Promised (besideEdit n vs rs v a x 1) vs rs v r rs′ vs′ → Promised (insertAfterEdit n vs rs v a x) vs rs v r rs′ vs′
+      after-told h = rw after-same at h
+
+      pub before-told : Promised (besideEdit n vs rs v a x 0) vs rs v r rs′ vs′ → Promised (insertBeforeEdit n vs rs v a x) vs rs v r rs′ vs′
+      before-told h = rw before-same at h

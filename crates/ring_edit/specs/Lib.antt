@@ -1,3 +1,4 @@
 -- The ring edits.
 pub mod Calls
 pub mod AnyEdit
+pub mod Beside

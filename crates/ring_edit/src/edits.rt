@@ -1,6 +1,8 @@
 // The ring edits: each judges its call in document 01's order and then writes one row and one valence, or nothing.
 ghost use mathlib.Core.Path.{_≡_};
+ghost use Prim.Native.Nat.{_≤_};
 ghost use Rattle.ring_edit.specs.Calls.{makeEdit, eraseEdit, replaceEdit, insertAfterEdit, insertBeforeEdit};
+ghost use Rattle.ring_edit.specs.Beside.{besideEdit};
 ghost use Rattle.ring_row.specs.Edit.{valencesAfter, ringsAfter};
 use mesh::Place;
 use ring_judge::judge::judge_call;
@@ -71,6 +73,30 @@ pub fn replace(
     Verdict::Accepted
 }
 
+// Inserts x so many places behind a's own in v's ring; no effect where a is absent.
+fn insert_beside(
+    valences: &mut [u16],
+    rings: &mut [u16],
+    count: usize,
+    v: usize,
+    a: usize,
+    x: usize,
+    behind: usize,
+) -> Verdict
+    requires { ⌜ behind ≤ 1 ⌝ }
+    ensures { λ r. ⌜ r ≡ besideEdit count (now (valences .entry)) (now (rings .entry)) v a x behind .verdict ⌝ }
+    ensures { λ _. ⌜ now (rings .exit) ≡ ringsAfter (besideEdit count (now (valences .entry)) (now (rings .entry)) v a x behind) (now (rings .entry)) v ⌝ }
+    ensures { λ _. ⌜ now (valences .exit) ≡ valencesAfter (besideEdit count (now (valences .entry)) (now (rings .entry)) v a x behind) (now (valences .entry)) v ⌝ }
+{
+    if let Verdict::Refused(r) = judge_entry(valences, rings, count, v, x) {
+        return Verdict::Refused(r);
+    }
+    let Place::At(i) = place_in(valences, rings, v, a) else {
+        return Verdict::Accepted;
+    };
+    insert_at(valences, rings, v, behind + i, x)
+}
+
 // Inserts x after a in v's ring; no effect where a is absent.
 pub fn insert_after(
     valences: &mut [u16],
@@ -84,13 +110,7 @@ pub fn insert_after(
     ensures { λ _. ⌜ now (rings .exit) ≡ ringsAfter (insertAfterEdit count (now (valences .entry)) (now (rings .entry)) v a x) (now (rings .entry)) v ⌝ }
     ensures { λ _. ⌜ now (valences .exit) ≡ valencesAfter (insertAfterEdit count (now (valences .entry)) (now (rings .entry)) v a x) (now (valences .entry)) v ⌝ }
 {
-    if let Verdict::Refused(r) = judge_entry(valences, rings, count, v, x) {
-        return Verdict::Refused(r);
-    }
-    let Place::At(i) = place_in(valences, rings, v, a) else {
-        return Verdict::Accepted;
-    };
-    insert_at(valences, rings, v, i + 1, x)
+    insert_beside(valences, rings, count, v, a, x, 1)
 }
 
 // Inserts x before a in v's ring; no effect where a is absent.
@@ -106,11 +126,5 @@ pub fn insert_before(
     ensures { λ _. ⌜ now (rings .exit) ≡ ringsAfter (insertBeforeEdit count (now (valences .entry)) (now (rings .entry)) v a x) (now (rings .entry)) v ⌝ }
     ensures { λ _. ⌜ now (valences .exit) ≡ valencesAfter (insertBeforeEdit count (now (valences .entry)) (now (rings .entry)) v a x) (now (valences .entry)) v ⌝ }
 {
-    if let Verdict::Refused(r) = judge_entry(valences, rings, count, v, x) {
-        return Verdict::Refused(r);
-    }
-    let Place::At(i) = place_in(valences, rings, v, a) else {
-        return Verdict::Accepted;
-    };
-    insert_at(valences, rings, v, i, x)
+    insert_beside(valences, rings, count, v, a, x, 0)
 }

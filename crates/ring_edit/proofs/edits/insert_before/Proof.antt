@@ -1,33 +1,11 @@
 -- `insert_before` meets its contract. Assumes nothing.
-use native.Mathlib.Omega.{arith}
-use mathlib.Core.Path.{_≡_, sym, _∙_}
-use Rattle.mesh.specs.Ring.{placeOf}
-use Rattle.mesh.specs.declared.Place.the-variants.{At}
-use Rattle.rings.specs.Table.{ringOf}
-use Rattle.rings.specs.declared.Verdict.the-variants.{Accepted}
-use Rattle.ring_judge.specs.Judging.{entryVerdict}
-use Rattle.ring_edit.specs.Calls.{insertBeforeEdit}
-use Rattle.ring_judge.proofs.Judged.{called, entered}
-use Rattle.ring_edit.proofs.Tables.{found}
-use Rattle.ring_row.proofs.TablesWritten.{edit-refused}
-use Rattle.ring_edit.proofs.Edited.{insert-refused, before-idle, before-done}
+use Rattle.ring_edit.proofs.Edited.{before-told}
 use borrow.Author.Needs.{needs}
 use Rattle.ring_edit.proofs.edits.insert_before.Statement.{statement}
 use Rattle.ring_edit.proofs.edits.insert_before.Tie as tie
 
--- the call was judged and accepted
-accepted : (c : tie.After-enum-told) → let a = c .before .before .before .before .before .before .before .args in Accepted ≡ entryVerdict (a .count) (a .valences .now) (a .rings .now) (a .v) (a .x)
-accepted c = sym (c .enum-told .given .1) ∙ c .before .before .judge-entry .ensures
-
--- and what it looks for was found
-at : (c : tie.After-i) → let a = c .before .before .before .before .before .before .before .before .before .before .before .before .args in At (c .i .given .0 .0) ≡ placeOf (a .a) (ringOf (a .valences .now) (a .rings .now) (a .v))
-at c = sym (c .i .given .1) ∙ c .before .before .place-in .ensures
-
-judge-entry-requires : tie.Need-judge-entry-requires
-judge-entry-requires c κs = search needs
-
-enum-known-r : tie.Need-enum-known-r
-enum-known-r c = search needs
+insert-beside-requires : tie.Need-insert-beside-requires
+insert-beside-requires c κs = search needs
 
 same-length : tie.Need-same-length
 same-length c = search needs
@@ -36,66 +14,7 @@ same-length-2 : tie.Need-same-length-2
 same-length-2 c = search needs
 
 returns : tie.Need-returns
-unfolding insertBeforeEdit
-returns c = let e = insert-refused _ _ _ _ _ _ _ (sym (c .before .r .given .1) ∙ c .before .before .before .judge-entry .ensures) in (e, edit-refused _ _ _ _ _ e)
-
-enum-told : tie.Need-enum-told
-enum-told c = search needs
-
-place-in-requires : tie.Need-place-in-requires
-place-in-requires c κs = called _ _ _ _ (entered _ _ _ _ _ (accepted (c .before .before)) .call) .row
-
-enum-known-i : tie.Need-enum-known-i
-enum-known-i c = search needs
-
-enum-told-2 : tie.Need-enum-told-2
-enum-told-2 c = search needs
-
-same-length-3 : tie.Need-same-length-3
-same-length-3 c = search needs
-
-same-length-4 : tie.Need-same-length-4
-same-length-4 c = search needs
-
-returns-2 : tie.Need-returns-2
-returns-2 c = let k = c .before .before in before-idle _ _ _ _ _ _ (accepted (k .before .before .before)) (sym (c .enum-told2 .given .1) ∙ k .place-in .ensures)
-
-insert-at-requires : tie.Need-insert-at-requires
-insert-at-requires c κs =
-    let i = c .before .before .before in
-    let e = entered _ _ _ _ _ (accepted (i .before .before .before .before .before)) in
-    let f = found _ _ _ _ (e .call) _ _ (at i) in
-    (f .0, (omega arith, (f .1 .1, e .small)))
-
-same-length-5 : tie.Need-same-length-5
-same-length-5 c = search needs
-
-same-length-6 : tie.Need-same-length-6
-same-length-6 c = search needs
-
-returns-3 : tie.Need-returns-3
-returns-3 c =
-    let k = c .before .before .before .before in
-    let i = k .before .before .before .before in
-    before-done _ _ _ _ _ _ (accepted (i .before .before .before .before .before)) _ (at i) _ _ _ (k .insert-at .ensures)
+returns c = before-told _ _ _ _ _ _ _ _ _ (c .before .before .before .before .insert-beside .ensures)
 
 pub insert-before-spec : {M : Type 1} → statement M
-insert-before-spec =
-    tie.close
-    (tie.spec
-    judge-entry-requires
-    enum-known-r
-    same-length
-    same-length-2
-    returns
-    enum-told
-    place-in-requires
-    enum-known-i
-    enum-told-2
-    same-length-3
-    same-length-4
-    returns-2
-    insert-at-requires
-    same-length-5
-    same-length-6
-    returns-3)
+insert-before-spec = tie.close (tie.spec insert-beside-requires same-length same-length-2 returns)
