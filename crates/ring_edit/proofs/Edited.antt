@@ -16,11 +16,11 @@ use Rattle.rings.specs.declared.Refusal.{Refusal}
 use Rattle.rings.specs.declared.Refusal.the-variants.{RingFull}
 use Rattle.rings.specs.declared.Verdict.{Verdict}
 use Rattle.rings.specs.declared.Verdict.the-variants.{Accepted, Refused}
-use Rattle.ring_judge.specs.Judging.{callVerdict, entryVerdict}
+use Rattle.ring_judge.specs.Judging.{callVerdict, makeVerdict, entryVerdict}
 use Rattle.ring_row.specs.Places.{openEdit}
 use Rattle.ring_row.specs.Edit.{Edit, valencesWith, ringsWith, valencesAfter, ringsAfter}
-use Rattle.ring_row.proofs.TablesWritten.{edit-idle, edit-done}
-use Rattle.ring_edit.specs.Calls.{eraseEdit, replaceEdit, insertVerdict, insertAfterEdit, insertBeforeEdit}
+use Rattle.ring_row.proofs.TablesWritten.{edit-refused, edit-idle, edit-done}
+use Rattle.ring_edit.specs.Calls.{makeEdit, eraseEdit, replaceEdit, insertVerdict, insertAfterEdit, insertBeforeEdit}
 use Rattle.ring_edit.specs.Beside.{besideEdit}
 
 -- what a call promises
@@ -28,6 +28,30 @@ abbrev pub Promised : Edit → List ℕ → List ℕ → ℕ → Verdict → Lis
 Promised e vs rs v r rs′ vs′ = (r ≡ e .verdict) × ((rs′ ≡ ringsAfter e rs v) × (vs′ ≡ valencesAfter e vs v))
 
 module _ (n : ℕ) (vs rs : List ℕ) (v : ℕ) where
+  -- ---- refused
+
+  pub make-refused : (l : List ℕ) (r : Refusal) → Refused r ≡ makeVerdict n vs rs v l → Promised (makeEdit n vs rs v l) vs rs v (Refused r) rs vs
+  unfolding makeEdit
+  make-refused l r e = (e, edit-refused vs rs v (makeEdit n vs rs v l) r e)
+
+  pub erase-refused : (x : ℕ) (r : Refusal) → Refused r ≡ callVerdict n vs rs v → Promised (eraseEdit n vs rs v x) vs rs v (Refused r) rs vs
+  unfolding eraseEdit
+  erase-refused x r e = (e, edit-refused vs rs v (eraseEdit n vs rs v x) r e)
+
+  pub replace-refused : (a x : ℕ) (r : Refusal) → Refused r ≡ entryVerdict n vs rs v x → Promised (replaceEdit n vs rs v a x) vs rs v (Refused r) rs vs
+  unfolding replaceEdit
+  replace-refused a x r e = (e, edit-refused vs rs v (replaceEdit n vs rs v a x) r e)
+
+  insert-refused : (a x : ℕ) (r : Refusal) → Refused r ≡ entryVerdict n vs rs v x → Refused r ≡ insertVerdict n vs rs v a x
+  unfolding insertVerdict andThen
+  insert-refused a x r e = rw (← e)
+
+  pub beside-refused : (a x behind : ℕ) (r : Refusal) → Refused r ≡ entryVerdict n vs rs v x → Promised (besideEdit n vs rs v a x behind) vs rs v (Refused r) rs vs
+  unfolding besideEdit
+  beside-refused a x behind r e = let k = insert-refused a x r e in (k, edit-refused vs rs v (besideEdit n vs rs v a x behind) r k)
+
+  -- ---- accepted
+
   module _ (x : ℕ) (e : Accepted ≡ callVerdict n vs rs v) where
     pub erase-idle : Absent ≡ placeOf x (ringOf vs rs v) → Promised (eraseEdit n vs rs v x) vs rs v Accepted rs vs
     unfolding eraseEdit
@@ -39,10 +63,6 @@ module _ (n : ℕ) (vs rs : List ℕ) (v : ℕ) where
     erase-done i q rs′ vs′ a b =
         let p = placed x (ringOf vs rs v) i q in
         (e, edit-done vs rs v (eraseEdit n vs rs v x) e (p .0) (closed (ringOf vs rs v) i) (rw (p .0, ← p .1)) rs′ vs′ a b)
-
-  pub insert-refused : (a x : ℕ) (r : Refusal) → Refused r ≡ entryVerdict n vs rs v x → Refused r ≡ insertVerdict n vs rs v a x
-  unfolding insertVerdict andThen
-  insert-refused a x r e = rw (← e)
 
   module _ (a x : ℕ) (e : Accepted ≡ entryVerdict n vs rs v x) where
     pub replace-idle : Absent ≡ placeOf a (ringOf vs rs v) → Promised (replaceEdit n vs rs v a x) vs rs v Accepted rs vs

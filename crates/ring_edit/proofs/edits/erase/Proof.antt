@@ -5,11 +5,9 @@ use Rattle.mesh.specs.declared.Place.the-variants.{At}
 use Rattle.rings.specs.Table.{ringOf}
 use Rattle.rings.specs.declared.Verdict.the-variants.{Accepted}
 use Rattle.ring_judge.specs.Judging.{callVerdict}
-use Rattle.ring_edit.specs.Calls.{eraseEdit}
 use Rattle.ring_judge.proofs.Judged.{called}
 use Rattle.ring_edit.proofs.Tables.{found}
-use Rattle.ring_row.proofs.TablesWritten.{edit-refused}
-use Rattle.ring_edit.proofs.Edited.{erase-idle, erase-done}
+use Rattle.ring_edit.proofs.Edited.{erase-refused, erase-idle, erase-done}
 use borrow.Author.Needs.{needs}
 use Rattle.ring_edit.proofs.edits.erase.Statement.{statement}
 use Rattle.ring_edit.proofs.edits.erase.Tie as tie
@@ -35,8 +33,7 @@ same-length-2 : tie.Need-same-length-2
 same-length-2 c = search needs
 
 returns : tie.Need-returns
-unfolding eraseEdit
-returns c = let e = sym (c .before .r .given .1) ∙ c .before .before .before .judge-call .ensures in (e, edit-refused _ _ _ _ _ e)
+returns c = erase-refused _ _ _ _ _ _ (sym (c .before .r .given .1) ∙ c .before .before .before .judge-call .ensures)
 
 enum-told : tie.Need-enum-told
 enum-told c = search needs

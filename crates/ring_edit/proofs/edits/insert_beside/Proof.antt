@@ -6,11 +6,9 @@ use Rattle.mesh.specs.declared.Place.the-variants.{At}
 use Rattle.rings.specs.Table.{ringOf}
 use Rattle.rings.specs.declared.Verdict.the-variants.{Accepted}
 use Rattle.ring_judge.specs.Judging.{entryVerdict}
-use Rattle.ring_edit.specs.Beside.{besideEdit}
 use Rattle.ring_judge.proofs.Judged.{called, entered}
 use Rattle.ring_edit.proofs.Tables.{found}
-use Rattle.ring_row.proofs.TablesWritten.{edit-refused}
-use Rattle.ring_edit.proofs.Edited.{insert-refused, beside-idle, beside-done}
+use Rattle.ring_edit.proofs.Edited.{beside-refused, beside-idle, beside-done}
 use borrow.Author.Needs.{needs}
 use Rattle.ring_edit.proofs.edits.insert_beside.Statement.{statement}
 use Rattle.ring_edit.proofs.edits.insert_beside.Tie as tie
@@ -36,8 +34,7 @@ same-length-2 : tie.Need-same-length-2
 same-length-2 c = search needs
 
 returns : tie.Need-returns
-unfolding besideEdit
-returns c = let e = insert-refused _ _ _ _ _ _ _ (sym (c .before .r .given .1) ∙ c .before .before .before .judge-entry .ensures) in (e, edit-refused _ _ _ _ _ e)
+returns c = beside-refused _ _ _ _ _ _ _ _ (sym (c .before .r .given .1) ∙ c .before .before .before .judge-entry .ensures)
 
 enum-told : tie.Need-enum-told
 enum-told c = search needs

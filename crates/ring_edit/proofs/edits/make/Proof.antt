@@ -5,7 +5,8 @@ use Rattle.ring_edit.specs.Calls.{makeEdit}
 use Rattle.rings.specs.declared.Verdict.the-variants.{Accepted}
 use Rattle.ring_judge.proofs.Judged.{made}
 use Rattle.ring_edit.proofs.Tables.{tabled-editable}
-use Rattle.ring_row.proofs.TablesWritten.{edit-refused, edit-done}
+use Rattle.ring_row.proofs.TablesWritten.{edit-done}
+use Rattle.ring_edit.proofs.Edited.{make-refused}
 use borrow.Author.Needs.{needs}
 use Rattle.ring_edit.proofs.edits.make.Statement.{statement}
 use Rattle.ring_edit.proofs.edits.make.Tie as tie
@@ -27,8 +28,7 @@ same-length-2 : tie.Need-same-length-2
 same-length-2 c = search needs
 
 returns : tie.Need-returns
-unfolding makeEdit
-returns c = let e = sym (c .before .r .given .1) ∙ c .before .before .before .judge-make .ensures in (e, edit-refused _ _ _ _ _ e)
+returns c = make-refused _ _ _ _ _ _ (sym (c .before .r .given .1) ∙ c .before .before .before .judge-make .ensures)
 
 enum-told : tie.Need-enum-told
 enum-told c = search needs

@@ -5,11 +5,10 @@ use Rattle.mesh.specs.declared.Place.the-variants.{At}
 use Rattle.rings.specs.Table.{ringOf}
 use Rattle.rings.specs.declared.Verdict.the-variants.{Accepted}
 use Rattle.ring_judge.specs.Judging.{entryVerdict}
-use Rattle.ring_edit.specs.Calls.{replaceEdit}
 use Rattle.ring_judge.proofs.Judged.{called, entered}
 use Rattle.ring_edit.proofs.Tables.{found}
-use Rattle.ring_row.proofs.TablesWritten.{edit-refused, valence-kept}
-use Rattle.ring_edit.proofs.Edited.{replace-idle, replace-done}
+use Rattle.ring_row.proofs.TablesWritten.{valence-kept}
+use Rattle.ring_edit.proofs.Edited.{replace-refused, replace-idle, replace-done}
 use borrow.Author.Needs.{needs}
 use Rattle.ring_edit.proofs.edits.replace.Statement.{statement}
 use Rattle.ring_edit.proofs.edits.replace.Tie as tie
@@ -35,8 +34,7 @@ same-length-2 : tie.Need-same-length-2
 same-length-2 c = search needs
 
 returns : tie.Need-returns
-unfolding replaceEdit
-returns c = let e = sym (c .before .r .given .1) ∙ c .before .before .before .judge-entry .ensures in (e, edit-refused _ _ _ _ _ e)
+returns c = replace-refused _ _ _ _ _ _ _ (sym (c .before .r .given .1) ∙ c .before .before .before .judge-entry .ensures)
 
 enum-told : tie.Need-enum-told
 enum-told c = search needs
