@@ -29,9 +29,9 @@ use Rattle.meshfile.specs.Layout.{fileCount, rowAt, fileValence, fileRing, file
 use Rattle.listing_text.specs.Lines as lines
 use Rattle.listing_text.specs.Listing.{levelText}
 use Rattle.listing_text.specs.Lines.{digits, signed, countsLine, vertexLine}
-use Rattle.meshfile.specs.Read.{readVerdict, readRings}
+use Rattle.file_reading.specs.Read.{readVerdict, readRings}
 use Rattle.meshfile.specs.Bytes.{recordOf, numberAt, lengthAt, kindAt, afterAt, wholeAt}
-use Rattle.meshfile.specs.Write.{payloadOf, fileOf}
+use Rattle.file_writing.specs.Write.{payloadOf, fileOf}
 use Rattle.cases.specs.Calls.{tenth, fifth}
 use Rattle.cases.specs.Cases.{Cases}
 

@@ -26,8 +26,8 @@ use Rattle.ring_query.specs.Queries.{nextAnswer}
 use Rattle.refine.specs.Refinement.{refineAnswer, refinePositions}
 use Rattle.moves.specs.Apply.{applyAnswer, applyMap}
 use Rattle.listing_text.specs.Listing.{refinedText}
-use Rattle.meshfile.specs.Read.{readRings}
-use Rattle.meshfile.specs.Write.{fileOf}
+use Rattle.file_reading.specs.Read.{readRings}
+use Rattle.file_writing.specs.Write.{fileOf}
 use Rattle.cases.specs.Calls.{tenth, fifth, diagonal, move0, move1, onRefined}
 use Rattle.cases.specs.Meshes.{ringsOf, tetrahedronWith, tetrahedron, octahedron, meshOf, valencesOf, tableOf, corners, roomy, listed, printed}
 

@@ -1,13 +1,13 @@
 // Reading and writing a mesh file.
 ghost use mathlib.Core.Path.{_≡_};
 ghost use Rattle.rings.specs.Paper.{paperAmount};
-ghost use Rattle.meshfile.specs.Read.{readAnswer, readValences, readRings, readPositions};
-ghost use Rattle.meshfile.specs.Write.{writeAnswer, writeRoom};
+ghost use Rattle.file_reading.specs.Read.{readAnswer, readValences, readRings, readPositions};
+ghost use Rattle.file_writing.specs.Write.{writeAnswer, writeRoom};
 ghost use Rattle.crossing.specs.Crossing.{valuePaper};
 use crossing::ValueAnswer;
 use crossing::answers::of_amount;
-use meshfile::reading::read;
-use meshfile::writing::write;
+use file_reading::read;
+use file_writing::write;
 
 // Reads a mesh file into the tables.
 #[no_mangle]

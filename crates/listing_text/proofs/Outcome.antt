@@ -24,7 +24,7 @@ use Rattle.refine.specs.Stack.{stackCount}
 use Rattle.refine.specs.Refinement.{stackVerdict, refineAnswer}
 use Rattle.refine.proofs.AcceptedStack.{stack-only}
 use Rattle.refine.proofs.Sizes.{level-count, start-none, start-suc}
-use Rattle.meshfile.specs.Read.{readAnswer, readValences, readRings, readPositions}
+use Rattle.file_reading.specs.Read.{readAnswer, readValences, readRings, readPositions}
 use Rattle.listing_text.specs.Wrote.{Wrote}
 use Rattle.listing_text.specs.Lines.{countsLine, vertexLine, refusedLine}
 use Rattle.listing_text.specs.Listing.{levelText, refinedText, meshText, fileText, listingText}

@@ -1,19 +1,7 @@
--- Laws of the mesh file.
+-- Laws of the format.
+pub mod Gathered
 pub mod Blocks
 pub mod Numbers
 pub mod Signed
 pub mod Finding
 pub mod Judging
-pub mod RowsRead
-pub mod RowsWritten
-pub mod Gathered
-pub mod Inverse
-pub mod Written
-pub mod InTables
-pub mod ReadBack
-pub mod Different
-pub mod FileLength
-pub mod Parts
-pub mod WriteBack
-pub mod Grammar
-pub mod Faults

@@ -28,9 +28,13 @@ module _ (s : List ℕ) where
   unfoldable pub fileValence : ℕ → ℕ
   fileValence at = numberAt s (at + 18) 2
 
+  -- neighbour i of those that stand from a place on, in two bytes each
+  abbrev pub neighbourAt : ℕ → ℕ → List ℕ
+  neighbourAt from i = numberAt s (from + i * 2) 2 ∷ []
+
   -- the neighbours in row v
   unfoldable pub fileRing : ℕ → List ℕ
-  fileRing v = gather (λ i. numberAt s (rowAt v + 20 + i * 2) 2 ∷ []) (fileValence (rowAt v))
+  fileRing v = gather (neighbourAt (rowAt v + 20)) (fileValence (rowAt v))
 
   -- one coordinate in row v
   unfoldable pub filePoint : ℕ → ℕ → ℤ

@@ -1,9 +1,7 @@
-// The mesh file: numbers in bytes, the record reader, the layout, reading and writing.
+// The format of a mesh file: numbers in bytes, the record reader, the layout.
 pub mod bytes;
 pub mod layout;
-pub mod reading;
 pub mod records;
-pub mod writing;
 
 // The kinds of record: the first with the number of vertices, a row, the last.
 pub const FIRST: usize = 1;

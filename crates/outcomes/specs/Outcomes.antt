@@ -12,8 +12,8 @@ use Rattle.rings.specs.Table.{put}
 use Rattle.ring_row.specs.Edit.{Edit, valencesAfter, ringsAfter}
 use Rattle.moves.specs.Apply.{applyAnswer, applyPositions, applyMap}
 use Rattle.plan.specs.declared.Move.{Move}
-use Rattle.meshfile.specs.Read.{readAnswer, readValences, readRings, readPositions}
-use Rattle.meshfile.specs.Write.{writeAnswer, writeRoom}
+use Rattle.file_reading.specs.Read.{readAnswer, readValences, readRings, readPositions}
+use Rattle.file_writing.specs.Write.{writeAnswer, writeRoom}
 use Rattle.listing_text.specs.Listing.{listingText}
 
 -- an answer that must be this one: the check and the four queries

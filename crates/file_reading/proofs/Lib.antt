@@ -1,0 +1,2 @@
+-- Laws of reading a mesh file.
+pub mod RowsRead

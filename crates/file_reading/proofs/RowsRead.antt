@@ -1,0 +1,215 @@
+-- What reading a row, all rows, and each return of `read` shows. Assumes nothing.
+use Prim.Native.Nat.{ℕ, zero, suc, _+_, _-_, _*_, _≤_, _<_}
+use mathlib.Core.Path.{_≡_, refl, sym, ap, ap₂, subst, _∙_}
+use mathlib.Core.Bool.{Bool, true, false}
+use mathlib.Core.List.{List, [], _∷_, _++_}
+use native.Mathlib.Nat.{zero-add, suc-add}
+use native.Mathlib.Numerals.{add-one}
+use native.Mathlib.Omega.{arith}
+use lib.IntN.{ℤ}
+use lib.ListN.{length, set, replicate, length-append, length-replicate, length-set}
+use Rattle.rings.specs.Table.{gather, padded, valenceRows, ringRows, pointRows}
+use Rattle.rings.specs.Verdict.{refuseIf, andThen, after, withAmount}
+use Rattle.rings.specs.Check.{badCount, shortTables}
+use Rattle.rings.specs.declared.Refusal.{Refusal}
+use Rattle.rings.specs.declared.Refusal.the-variants.{ControlTooShort, BadCount}
+use Rattle.rings.specs.declared.Verdict.{Verdict}
+use Rattle.rings.specs.declared.Verdict.the-variants.{Accepted, Refused}
+use Rattle.rings.specs.declared.Amount.{Amount}
+use Rattle.rings.specs.declared.Amount.the-variants as amount
+use Rattle.rings.specs.declared.Amount.the-variants.{Of}
+use Rattle.rings.proofs.Tables.{length-gather}
+use Rattle.rings.proofs.Verdicts.{if-hit, if-pass}
+use Rattle.meshfile.specs.Bytes.{numberAt, coordinateOf, afterAt}
+use Rattle.meshfile.specs.Blocks.{Put, gatherFrom}
+use Rattle.meshfile.specs.Layout.{fileCount, rowAt, fileValence, neighbourAt, fileRing, filePoint, isRow, fileVerdict}
+use Rattle.meshfile.specs.Judging.{Row}
+use Rattle.file_reading.specs.Read.{readVerdict, readAnswer, readValences, readRings, readPositions}
+use Rattle.meshfile.proofs.Blocks.{put-none, put-one, put-length, then, put-is, renewed, rows-next}
+use Rattle.meshfile.proofs.Judging.{row-is, rows-start, reached-next}
+
+-- one element that a call gave
+pub one-is : {A : Type 0} {l : List A} {i : ℕ} {a b : A} → b ≡ a → i < length l → Put l i (a ∷ []) (set l i b)
+one-is {A} {l} {i} e h = put-is (ap (λ (x : A). x ∷ []) e) (put-one h)
+
+-- ---- unused places
+
+replicate-more : (n a : ℕ) → replicate (suc n) a ≡ replicate n a ++ (a ∷ [])
+replicate-more zero a = refl
+replicate-more (suc n) a = ap (λ (l : List ℕ). a ∷ l) (replicate-more n a)
+
+pub fill-next : {l m n : List ℕ} {i k : ℕ} (j : ℕ) → Put l i (replicate j 65535) m → k ≡ i + j → k < length m → n ≡ set m k 65535 → Put l i (replicate (j + 1) 65535) n
+fill-next {l} {m} {n} {i} {k} j p e h q =
+    rw (q, add-one, replicate-more j 65535) (then p (put-one h) (let r = length-replicate {A = ℕ} j 65535 in omega arith))
+
+-- ---- neighbours
+
+pub length-neighbours : (s : List ℕ) (from n : ℕ) → length (gather (neighbourAt s from) n) ≡ n * 1
+length-neighbours s from n = length-gather (neighbourAt s from) 1 (λ i. refl) n
+
+pub length-part : (s : List ℕ) (from e n : ℕ) → length (gatherFrom (neighbourAt s from) e n) ≡ n * 1
+length-part s from e n = length-gather (λ j. neighbourAt s from (e + j)) 1 (λ i. refl) n
+
+pub length-ring : (s : List ℕ) (v : ℕ) → length (fileRing s v) ≡ fileValence s (rowAt s v)
+unfolding fileRing
+length-ring s v = let h = length-neighbours s (rowAt s v + 20) (fileValence s (rowAt s v)) in omega arith
+
+pub row-valence : {s : List ℕ} {v at n : ℕ} → Row s v at n → n ≡ fileValence s (rowAt s v)
+row-valence {s} r = r .valence ∙ ap (fileValence s) (r .begins)
+
+-- the neighbours that were read are the row's ring
+ring-here : {s : List ℕ} {v at n : ℕ} → Row s v at n → gather (neighbourAt s (at + 20)) n ≡ fileRing s v
+unfolding fileRing
+ring-here {s} r = ap₂ (λ (k j : ℕ). gather (neighbourAt s (k + 20)) j) (r .begins) (row-valence r)
+
+-- a row of null vertices, and the ring over its front
+replicate-add : (i k a : ℕ) → replicate (i + k) a ≡ replicate i a ++ replicate k a
+replicate-add zero k a = ap (λ (j : ℕ). replicate j a) (zero-add k)
+replicate-add (suc i) k a = ap (λ (j : ℕ). replicate j a) (suc-add i k) ∙ ap (λ (l : List ℕ). a ∷ l) (replicate-add i k a)
+
+pub ring-padded : {s l m t : List ℕ} {v at n k : ℕ} → Row s v at n → Put l (v * 32) (replicate 32 65535) m → Put m k (gather (neighbourAt s (at + 20)) n) t → k ≡ v * 32 → Put l (v * 32) (padded (fileRing s v)) t
+unfolding padded
+ring-padded {s} {l} {m} {t} {v} {at} {n} {k} r p q e =
+    let ring = fileRing s v in
+    let h : length ring ≡ n = length-ring s v ∙ sym (row-valence r) in
+    let x : 32 ≡ n + (32 - length ring) = let w = r .most in omega arith in
+    let y : replicate {A = ℕ} 32 65535 ≡ replicate n 65535 ++ replicate (32 - length ring) 65535 = ap (λ (j : ℕ). replicate {A = ℕ} j 65535) x ∙ replicate-add n (32 - length ring) 65535 in
+    renewed (replicate n 65535) (replicate (32 - length ring) 65535) ring (put-is y p) (subst (λ (j : ℕ). Put m j ring t) e (put-is (ring-here r) q)) (h ∙ sym (length-replicate {A = ℕ} n 65535))
+
+-- four elements
+pub four-is : {l : List ℕ} {k : ℕ} {x y z w p q r t : ℕ} → p ≡ x → q ≡ y → r ≡ z → t ≡ w → k + 4 ≤ length l → Put l k (x ∷ y ∷ z ∷ w ∷ []) (set (set (set (set l k p) (k + 1) q) (k + 2) r) (k + 3) t)
+four-is a b c d h =
+    then (then (then (one-is a (omega arith)) (one-is b (simp length-set (omega arith))) refl) (one-is c (simp length-set (omega arith))) refl) (one-is d (simp length-set (omega arith))) refl
+
+-- neighbour i + j of those that stand from a place on
+pub number-is : (s : List ℕ) (from i j : ℕ) {k x : ℕ} → k ≡ from + i * 2 + j * 2 → x ≡ numberAt s k 2 → x ≡ numberAt s (from + (i + j) * 2) 2
+number-is s from i j e p = p ∙ ap (λ (k : ℕ). numberAt s k 2) (e ∙ (let g : from + i * 2 + j * 2 ≡ from + (i + j) * 2 = omega arith in g))
+
+-- ---- the point
+
+pub point-is : (s : List ℕ) (v at axis k : ℕ) {z : ℤ} → at ≡ rowAt s v → k ≡ at + 6 + axis * 4 → z ≡ coordinateOf (numberAt s k 4) → z ≡ filePoint s axis v
+unfolding filePoint
+point-is s v at axis k e q p = p ∙ ap (λ (j : ℕ). coordinateOf (numberAt s j 4)) (q ∙ ap (λ (j : ℕ). j + 6 + axis * 4) e)
+
+pub three-is : {A : Type 0} {l : List A} {k : ℕ} {x y z p q r : A} → p ≡ x → q ≡ y → r ≡ z → k + 3 ≤ length l → Put l k (x ∷ y ∷ z ∷ []) (set (set (set l k p) (k + 1) q) (k + 2) r)
+three-is {A} {l} {k} a b c h =
+    then (then (one-is a (omega arith)) (one-is b (simp length-set (omega arith))) refl) (one-is c (simp length-set (omega arith))) refl
+
+-- ---- all rows
+
+-- row v is there: what reading it asks
+pub row-of : (s : List ℕ) (v at n : ℕ) → isRow s (rowAt s v) ≡ true → at ≡ rowAt s v → n ≡ numberAt s (at + 18) 2 → Row s v at n
+unfolding fileValence
+row-of s v at n g e p =
+    let r = row-is s at (ap (isRow s) e ∙ g) in
+    record { begins = e; valence = p; most = let m = r .most in omega arith; within = let f = r .fits in omega arith }
+
+-- the tables once the rows below v are read
+pub record ReadTo (s vs₀ rs₀ : List ℕ) (ps₀ : List ℤ) (vs rs : List ℕ) (ps : List ℤ) (at v : ℕ) : Type 0 where
+  pub here : at ≡ rowAt s v
+  pub long-v : length vs ≡ length vs₀
+  pub long-r : length rs ≡ length rs₀
+  pub long-p : length ps ≡ length ps₀
+  pub wide : length (ringRows (fileRing s) v) ≡ v * 32
+  pub put-v : Put vs₀ 0 (valenceRows (fileRing s) v) vs
+  pub put-r : Put rs₀ 0 (ringRows (fileRing s) v) rs
+  pub put-p : Put ps₀ 0 (pointRows (filePoint s) v) ps
+
+pub read-none : (s vs rs : List ℕ) (ps : List ℤ) {at : ℕ} → at ≡ afterAt s 0 → ReadTo s vs rs ps vs rs ps at 0
+unfolding valenceRows ringRows pointRows
+read-none s vs rs ps e =
+    record {
+      here = e ∙ sym (rows-start s);
+      long-v = refl;
+      long-r = refl;
+      long-p = refl;
+      wide = refl;
+      put-v = put-none (omega arith);
+      put-r = put-none (omega arith);
+      put-p = put-none (omega arith);
+    }
+
+pub length-padded : (l : List ℕ) → length l ≤ 32 → length (padded l) ≡ 32
+unfolding padded
+length-padded l h = length-append l (replicate (32 - length l) 65535) ∙ omega (arith, length-replicate {A = ℕ} (32 - length l) 65535)
+
+wide-next : (s : List ℕ) (v : ℕ) → length (ringRows (fileRing s) v) ≡ v * 32 → length (fileRing s v) ≤ 32 → length (ringRows (fileRing s) (v + 1)) ≡ (v + 1) * 32
+unfolding ringRows
+wide-next s v e h =
+    let f : ℕ → List ℕ = λ k. padded (fileRing s k) in
+    let a : length (gather f (v + 1)) ≡ length (gather f v ++ f v) = rw add-one in
+    a ∙ length-append (gather f v) (f v) ∙ omega (arith, length-padded (fileRing s v) h)
+
+module _ {s vs₀ rs₀ : List ℕ} {ps₀ : List ℤ} {vs rs : List ℕ} {ps : List ℤ} {vs′ rs′ : List ℕ} {ps′ : List ℤ} {at next v n : ℕ} where
+  pub read-next : ReadTo s vs₀ rs₀ ps₀ vs rs ps at v → Row s v at n → Put vs v (n ∷ []) vs′ → Put rs (v * 32) (padded (fileRing s v)) rs′
+      → Put ps (v * 3) (filePoint s 0 v ∷ filePoint s 1 v ∷ filePoint s 2 v ∷ []) ps′ → next ≡ afterAt s at → ReadTo s vs₀ rs₀ ps₀ vs′ rs′ ps′ next (v + 1)
+  unfolding valenceRows ringRows pointRows
+  read-next i r p q t e =
+      let h : n ≡ length (fileRing s v) = row-valence r ∙ sym (length-ring s v) in
+      record {
+        here = reached-next s v at next (i .here) e;
+        long-v = put-length p ∙ i .long-v;
+        long-r = put-length q ∙ i .long-r;
+        long-p = put-length t ∙ i .long-p;
+        wide = wide-next s v (i .wide) (let m = r .most in omega arith);
+        put-v = rows-next (λ k. length (fileRing s k) ∷ []) v (i .put-v) (put-is (ap (λ (k : ℕ). k ∷ []) h) p)
+            (omega (arith, length-gather (λ k. length (fileRing s k) ∷ []) 1 (λ k. refl) v));
+        put-r = rows-next (λ k. padded (fileRing s k)) v (i .put-r) q (let w = i .wide in omega arith);
+        put-p = rows-next (λ k. filePoint s 0 k ∷ filePoint s 1 k ∷ filePoint s 2 k ∷ []) v (i .put-p) t
+            (omega (arith, length-gather (λ k. filePoint s 0 k ∷ filePoint s 1 k ∷ filePoint s 2 k ∷ []) 3 (λ k. refl) v));
+      }
+
+module _ {s vs₀ rs₀ : List ℕ} {ps₀ : List ℤ} {vs rs : List ℕ} {ps : List ℤ} {at v : ℕ} where
+  pub read-all : (count : ℕ) → ReadTo s vs₀ rs₀ ps₀ vs rs ps at v → v ≤ count → count ≤ v
+      → Put vs₀ 0 (valenceRows (fileRing s) count) vs × (Put rs₀ 0 (ringRows (fileRing s) count) rs × Put ps₀ 0 (pointRows (filePoint s) count) ps)
+  read-all count i a b =
+      let e : v ≡ count = omega arith in
+      (put-is (ap (valenceRows (fileRing s)) e) (i .put-v), (put-is (ap (ringRows (fileRing s)) e) (i .put-r), put-is (ap (pointRows (filePoint s)) e) (i .put-p)))
+
+-- a row's bytes are there
+pub row-fits : (s : List ℕ) (v at : ℕ) → isRow s (rowAt s v) ≡ true → at ≡ rowAt s v → at + 20 ≤ length s
+row-fits s v at g e = let f = row-is s (rowAt s v) g .fits in omega arith
+
+-- ---- what each return of `read` shows
+
+abbrev pub Shown : List ℕ → List ℕ → List ℕ → List ℤ → Amount → List ℕ → List ℕ → List ℤ → Type 0
+Shown s vs rs ps a vs′ rs′ ps′ = (a ≡ readAnswer s vs rs ps) × ((vs′ ≡ readValences s vs rs ps) × ((rs′ ≡ readRings s vs rs ps) × (ps′ ≡ readPositions s vs rs ps)))
+
+module _ (s vs rs : List ℕ) (ps : List ℤ) where
+  refused : (r : Refusal) → Refused r ≡ readVerdict s vs rs ps → Shown s vs rs ps (amount.Refused r) vs rs ps
+  unfolding readAnswer readValences readRings readPositions withAmount after
+  refused r e = rw (← e) (refl, (refl, (refl, refl)))
+
+  -- what is left of the verdict before each stage
+  abbrev from1 : ℕ → Verdict
+  from1 n = refuseIf (shortTables n vs rs ps) ControlTooShort Accepted
+
+  abbrev from2 : ℕ → Verdict
+  from2 n = refuseIf (badCount n) BadCount (from1 n)
+
+  pub read-broken : (r : Refusal) → Refused r ≡ fileVerdict s → Shown s vs rs ps (amount.Refused r) vs rs ps
+  unfolding readVerdict andThen
+  read-broken r e = refused r (rw (← e))
+
+  module _ (e : Accepted ≡ fileVerdict s) (n : ℕ) (c : n ≡ numberAt s 6 2) where
+    past17 : from2 n ≡ readVerdict s vs rs ps
+    unfolding readVerdict andThen fileCount
+    past17 = rw (← e, c)
+
+    module _ {b : Bool} (p : b ≡ badCount n) where
+      pub read-bad : b ≡ true → Shown s vs rs ps (amount.Refused BadCount) vs rs ps
+      read-bad t = refused BadCount (if-hit (badCount n) BadCount (from1 n) b p t ∙ past17)
+
+      module _ (t : b ≡ false) {d : Bool} (q : d ≡ shortTables n vs rs ps) where
+        past2 : from1 n ≡ readVerdict s vs rs ps
+        past2 = sym (if-pass (badCount n) BadCount (from1 n) b p t) ∙ past17
+
+        pub read-short : d ≡ true → Shown s vs rs ps (amount.Refused ControlTooShort) vs rs ps
+        read-short h = refused ControlTooShort (if-hit (shortTables n vs rs ps) ControlTooShort Accepted d q h ∙ past2)
+
+        pub read-done : d ≡ false → {vs′ rs′ : List ℕ} {ps′ : List ℤ} → Put vs 0 (valenceRows (fileRing s) n) vs′ → Put rs 0 (ringRows (fileRing s) n) rs′
+            → Put ps 0 (pointRows (filePoint s) n) ps′ → Shown s vs rs ps (Of n) vs′ rs′ ps′
+        unfolding readAnswer readValences readRings readPositions withAmount after fileCount
+        read-done h x y z =
+            let v : Accepted ≡ readVerdict s vs rs ps = sym (if-pass (shortTables n vs rs ps) ControlTooShort Accepted d q h) ∙ past2 in
+            rw (← v, ← c) (refl, (x .is, (y .is, z .is)))

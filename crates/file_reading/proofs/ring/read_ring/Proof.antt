@@ -1,0 +1,39 @@
+-- `read_ring` meets its contract. Assumes nothing.
+use borrow.Author.Needs.{needs}
+use mathlib.Core.Path.{refl}
+use Rattle.file_reading.proofs.RowsRead.{ring-padded}
+use Rattle.file_reading.proofs.ring.read_ring.Statement.{statement}
+use Rattle.file_reading.proofs.ring.read_ring.Tie as tie
+
+mul-fill : tie.Need-mul-fill
+mul-fill c = search needs
+
+fill-requires : tie.Need-fill-requires
+fill-requires c κs = search needs
+
+add-read-neighbours : tie.Need-add-read-neighbours
+add-read-neighbours c = search needs
+
+mul-read-neighbours : tie.Need-mul-read-neighbours
+mul-read-neighbours c = search needs
+
+read-neighbours-requires : tie.Need-read-neighbours-requires
+read-neighbours-requires c κs = search needs
+
+same-length : tie.Need-same-length
+same-length c = search needs
+
+returns : tie.Need-returns
+returns c = ring-padded (c .before .before .before .before .before .before .before .before .before .before .pre .0) (c .before .before .before .before .before .before .fill .ensures) (c .before .before .read-neighbours .ensures) refl
+
+pub read-ring-spec : {M : Type 1} → statement M
+read-ring-spec =
+    tie.close
+    (tie.spec
+    mul-fill
+    fill-requires
+    add-read-neighbours
+    mul-read-neighbours
+    read-neighbours-requires
+    same-length
+    returns)

@@ -1,0 +1,2 @@
+-- Reading a mesh file.
+pub mod Read

@@ -1,0 +1,2 @@
+-- Laws of writing a mesh file.
+pub mod RowsWritten

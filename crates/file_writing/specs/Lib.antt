@@ -1,0 +1,3 @@
+-- Writing a mesh file.
+pub mod Write
+pub mod Storing
