@@ -14,8 +14,8 @@ use level::numbers::count_over;
 use level::numbers::place_over;
 use level::rows::around;
 use level::rows::middle;
+use mesh_check::positions::has_beyond;
 use rings::MOST_VALENCE;
-use rings::check::has_beyond;
 use rings::table::ring_of;
 
 // Does the ring of old vertex p on the next level, which has p's valence, differ from what refinement gives?

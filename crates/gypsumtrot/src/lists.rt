@@ -11,8 +11,8 @@ use crossing::ValueAnswer;
 use crossing::answers::of_amount;
 use crossing::records::by_kinds;
 use crossing::records::walk_records;
-use plan::Plan;
 use moves::call::settle;
+use plan::Plan;
 use plan::list::opened;
 
 // What is done with the plan of a list.

@@ -6,8 +6,8 @@ ghost use Rattle.refine.specs.Refinement.{refineAnswer, refineValences, refineR
 ghost use Rattle.crossing.specs.Crossing.{countsPaper};
 use crossing::CountsAnswer;
 use crossing::answers::of_counted;
+use mesh_check::check;
 use refine::refine;
-use rings::check::check;
 
 // The check.
 #[no_mangle]

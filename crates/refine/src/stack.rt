@@ -8,11 +8,11 @@ ghost use Rattle.refine.specs.Refinement.{stackVerdict};
 use super::LEAST_LEVELS;
 use super::MOST_LEVELS;
 use super::MOST_VERTICES;
+use mesh_check::judge;
+use mesh_check::valence_sum;
 use rings::MOST_VALENCE;
 use rings::Refusal;
 use rings::Verdict;
-use rings::check::judge;
-use rings::check::valence_sum;
 
 // Reason 8: is the number of levels not 1 to 4?
 fn is_bad_levels(levels: usize) -> bool

@@ -3,7 +3,6 @@ pub mod CheckAcceptsSoundMeshes
 pub mod Verdicts
 pub mod Rows
 pub mod Checks
-pub mod Turning
 pub mod Accepted
 pub mod Rewrite
 pub mod Tables

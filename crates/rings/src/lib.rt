@@ -1,8 +1,6 @@
-// Ring tables: the lent tables and their rows, the answers that every call gives, and the check.
-pub mod check;
+// Ring tables: the lent tables and their rows, one ring, and the answers that every call gives.
 pub mod reasons;
 pub mod ring;
-pub mod sound;
 pub mod table;
 
 // The limits that the code names.
@@ -13,10 +11,6 @@ pub const MOST_COUNT: usize = 1024;
 pub const LEAST_VALENCE: usize = 3;
 
 pub const MOST_VALENCE: usize = 32;
-
-pub const LEAST_UNITS: i32 = -1048576;
-
-pub const MOST_UNITS: i32 = 1048576;
 
 pub const NULL_VERTEX: u16 = 65535;
 

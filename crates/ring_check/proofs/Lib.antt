@@ -1,0 +1,2 @@
+-- Rings that turn round each vertex are sound.
+pub mod Turning

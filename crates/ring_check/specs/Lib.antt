@@ -1,0 +1,2 @@
+-- What the quick pass looks at.
+pub mod Turning
