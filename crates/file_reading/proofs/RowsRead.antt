@@ -25,6 +25,7 @@ use Rattle.meshfile.specs.Blocks.{Put, gatherFrom}
 use Rattle.meshfile.specs.Layout.{fileCount, rowAt, fileValence, neighbourAt, fileRing, filePoint, isRow, fileVerdict}
 use Rattle.meshfile.specs.Judging.{Row}
 use Rattle.file_reading.specs.Read.{readVerdict, readAnswer, readValences, readRings, readPositions}
+use Rattle.meshfile.proofs.Gathered.{length-from}
 use Rattle.meshfile.proofs.Blocks.{put-none, put-one, put-length, then, put-is, renewed, rows-next}
 use Rattle.meshfile.proofs.Judging.{row-is, rows-start, reached-next}
 
@@ -48,7 +49,7 @@ pub length-neighbours : (s : List ℕ) (from n : ℕ) → length (gather (neighb
 length-neighbours s from n = length-gather (neighbourAt s from) 1 (λ i. refl) n
 
 pub length-part : (s : List ℕ) (from e n : ℕ) → length (gatherFrom (neighbourAt s from) e n) ≡ n * 1
-length-part s from e n = length-gather (λ j. neighbourAt s from (e + j)) 1 (λ i. refl) n
+length-part s from e n = length-from (neighbourAt s from) 1 (λ i. refl) e n
 
 pub length-ring : (s : List ℕ) (v : ℕ) → length (fileRing s v) ≡ fileValence s (rowAt s v)
 unfolding fileRing
@@ -77,13 +78,20 @@ ring-padded {s} {l} {m} {t} {v} {at} {n} {k} r p q e =
     renewed (replicate n 65535) (replicate (32 - length ring) 65535) ring (put-is y p) (subst (λ (j : ℕ). Put m j ring t) e (put-is (ring-here r) q)) (h ∙ sym (length-replicate {A = ℕ} n 65535))
 
 -- four elements
-pub four-is : {l : List ℕ} {k : ℕ} {x y z w p q r t : ℕ} → p ≡ x → q ≡ y → r ≡ z → t ≡ w → k + 4 ≤ length l → Put l k (x ∷ y ∷ z ∷ w ∷ []) (set (set (set (set l k p) (k + 1) q) (k + 2) r) (k + 3) t)
+four-is : {l : List ℕ} {k : ℕ} {x y z w p q r t : ℕ} → p ≡ x → q ≡ y → r ≡ z → t ≡ w → k + 4 ≤ length l → Put l k (x ∷ y ∷ z ∷ w ∷ []) (set (set (set (set l k p) (k + 1) q) (k + 2) r) (k + 3) t)
 four-is a b c d h =
     then (then (then (one-is a (omega arith)) (one-is b (simp length-set (omega arith))) refl) (one-is c (simp length-set (omega arith))) refl) (one-is d (simp length-set (omega arith))) refl
 
 -- neighbour i + j of those that stand from a place on
-pub number-is : (s : List ℕ) (from i j : ℕ) {k x : ℕ} → k ≡ from + i * 2 + j * 2 → x ≡ numberAt s k 2 → x ≡ numberAt s (from + (i + j) * 2) 2
+number-is : (s : List ℕ) (from i j : ℕ) {k x : ℕ} → k ≡ from + i * 2 + j * 2 → x ≡ numberAt s k 2 → x ≡ numberAt s (from + (i + j) * 2) 2
 number-is s from i j e p = p ∙ ap (λ (k : ℕ). numberAt s k 2) (e ∙ (let g : from + i * 2 + j * 2 ≡ from + (i + j) * 2 = omega arith in g))
+
+-- four neighbours, from the i-th on
+pub four-read : {l : List ℕ} {k a b c d : ℕ} (s : List ℕ) (from i : ℕ) → a ≡ numberAt s (from + i * 2) 2 → b ≡ numberAt s (from + i * 2 + 2) 2 → c ≡ numberAt s (from + i * 2 + 4) 2
+    → d ≡ numberAt s (from + i * 2 + 6) 2 → k + 4 ≤ length l → Put l k (gatherFrom (neighbourAt s from) i 4) (set (set (set (set l k a) (k + 1) b) (k + 2) c) (k + 3) d)
+unfolding gatherFrom
+four-read s from i p q r t h =
+    four-is (number-is s from i 0 (omega arith) p) (number-is s from i 1 (omega arith) q) (number-is s from i 2 (omega arith) r) (number-is s from i 3 (omega arith) t) h
 
 -- ---- the point
 

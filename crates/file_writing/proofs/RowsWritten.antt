@@ -32,6 +32,7 @@ use Rattle.meshfile.specs.Bytes.{bytesOf, bitsOf, recordOf}
 use Rattle.meshfile.specs.Blocks.{Put, gatherFrom}
 use Rattle.file_writing.specs.Write.{neighbourBytes, payloadOf, rowBytes, fileOf, rowsLength, overMost, writeVerdict, writeAnswer, writeRoom}
 use Rattle.file_writing.specs.Storing.{pointBytes, Stored}
+use Rattle.meshfile.proofs.Gathered.{length-from}
 use Rattle.meshfile.proofs.Blocks.{then, put-is}
 
 -- ---- lengths
@@ -40,7 +41,7 @@ pub length-neighbour-bytes : (ring : List ℕ) (n : ℕ) → length (gather (nei
 length-neighbour-bytes ring n = length-gather (neighbourBytes ring) 2 (λ i. refl) n
 
 pub length-part-bytes : (ring : List ℕ) (e n : ℕ) → length (gatherFrom (neighbourBytes ring) e n) ≡ n * 2
-length-part-bytes ring e n = length-gather (λ j. neighbourBytes ring (e + j)) 2 (λ i. refl) n
+length-part-bytes ring e n = length-from (neighbourBytes ring) 2 (λ i. refl) e n
 
 pub length-payload : (ring : List ℕ) (point : ℕ → ℤ) → length (payloadOf ring point) ≡ 14 + 2 * length ring
 unfolding payloadOf
@@ -101,6 +102,7 @@ module _ (vs rs : List ℕ) (ps : List ℤ) (v : ℕ) {r : List ℕ} (e : r ≡ 
 -- four neighbours
 pub four-put : {l m₁ m₂ m₃ m₄ : List ℕ} {k : ℕ} (ring : List ℕ) (i : ℕ) → Put l k (bytesOf 2 (getD ring i 0)) m₁ → Put m₁ (k + 2) (bytesOf 2 (getD ring (i + 1) 0)) m₂ → Put m₂ (k + 4) (bytesOf 2 (getD ring (i + 2) 0)) m₃
     → Put m₃ (k + 6) (bytesOf 2 (getD ring (i + 3) 0)) m₄ → Put l k (gatherFrom (neighbourBytes ring) i 4) m₄
+unfolding gatherFrom
 four-put ring i p q r s =
     then (then (then (put-is (ap (λ (j : ℕ). bytesOf 2 (getD ring j 0)) (sym (add-zero i))) p) q refl) r refl) s refl
 

@@ -2,7 +2,7 @@
 use Prim.Native.Nat.{ℕ, _+_, _-_, _*_, _/_, _≤_, _<_}
 use mathlib.Core.Path.{_≡_, sym, ap, ap₂, subst, _∙_}
 use mathlib.Core.List.{List, [], _∷_, _++_, append-assoc, append-nil}
-use native.Mathlib.Nat.{add-zero, zero-add, le-antisymm}
+use native.Mathlib.Nat.{add-zero, le-antisymm}
 use native.Mathlib.Numerals.{add-one}
 use native.Mathlib.Omega.{arith}
 use lib.ListN.{length, take, drop, set, length-append, length-take}
@@ -10,7 +10,7 @@ use lib.Seq.{set-split, take-at, drop-at, drop-drop}
 use Rattle.rings.specs.Table.{put, gather}
 use Rattle.rings.proofs.Tables.{put-nothing, length-put, put-more, length-gather}
 use Rattle.meshfile.specs.Blocks.{Put, gatherFrom}
-use Rattle.meshfile.proofs.Gathered.{gather-same, gather-add, from-add}
+use Rattle.meshfile.proofs.Gathered.{gather-add, from-add, from-start}
 
 module _ {A : Type 0} where
   -- nothing, and one element
@@ -106,6 +106,10 @@ module _ {A : Type 0} where
 
   -- ---- rows in parts: n rows from the e-th on
 
+  pub from-none : {l : List A} {i : ℕ} (f : ℕ → List A) (e : ℕ) → i ≤ length l → Put l i (gatherFrom f e 0) l
+  unfolding gatherFrom
+  from-none f e h = put-none h
+
   pub from-next : {l m n : List A} {i k : ℕ} (f : ℕ → List A) (e j c : ℕ) → Put l i (gatherFrom f e j) m → Put m k (gatherFrom f (e + j) c) n → k ≡ i + length (gatherFrom f e j) → Put l i (gatherFrom f e (j + c)) n
   from-next f e j c p q h = put-is (sym (from-add f e j c)) (then p q h)
 
@@ -123,7 +127,7 @@ module _ {A : Type 0} where
         let d = (n - 4) / 4 * 4 in
         let e = n - 4 in
         let g = 4 + d - e in
-        let first : Put l i (gather f 4) m₁ = subst (λ (k : ℕ). Put l k (gather f 4) m₁) a (put-is (gather-same (λ j. f (0 + j)) f 4 (λ j t. ap f (zero-add j))) p) in
+        let first : Put l i (gather f 4) m₁ = subst (λ (k : ℕ). Put l k (gather f 4) m₁) a (put-is (from-start f 4) p) in
         let both : Put l i (gather f (4 + d)) m₂ = put-is (sym (gather-add f 4 d)) (then first q (b ∙ ap (λ (k : ℕ). i + k) (sym (length-gather f w wide 4)))) in
         let x : 4 + d ≡ e + g = omega arith in
         let y : 4 ≡ g + (4 - g) = omega arith in

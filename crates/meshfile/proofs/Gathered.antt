@@ -3,12 +3,12 @@ use Prim.Native.Nat.{ℕ, zero, suc, _+_, _*_, _≤_, _<_}
 use mathlib.Core.Path.{_≡_, refl, sym, ap, ap₂, _∙_}
 use mathlib.Core.List.{List, [], _∷_, _++_, append-assoc, append-nil}
 use mathlib.Core.Logic.{⊎-elim}
-use native.Mathlib.Nat.{add-zero, add-suc, eq-or-lt-of-le, zero-mul, suc-mul}
+use native.Mathlib.Nat.{add-zero, zero-add, add-suc, eq-or-lt-of-le, zero-mul, suc-mul}
 use native.Mathlib.Omega.{arith}
 use lib.ListN.{length, getD, take, drop, length-append}
 use lib.Seq.{take-suc, take-length, drop-at}
 use Rattle.rings.specs.Table.{put, gather}
-use Rattle.rings.proofs.Tables.{gather-at}
+use Rattle.rings.proofs.Tables.{length-gather, gather-at}
 use Rattle.meshfile.specs.Blocks.{gatherFrom}
 
 module _ {A : Type 0} where
@@ -34,13 +34,23 @@ module _ {A : Type 0} where
 
   -- the first i rows, and k more
   pub gather-add : (f : ℕ → List A) (i k : ℕ) → gather f (i + k) ≡ gather f i ++ gatherFrom f i k
+  unfolding gatherFrom
   gather-add f i zero = ap (gather f) (add-zero i) ∙ sym (append-nil (gather f i))
   gather-add f i (suc k) = ap (gather f) (add-suc i k) ∙ ap (λ (x : List A). x ++ f (i + k)) (gather-add f i k) ∙ append-assoc (gather f i) (gatherFrom f i k) (f (i + k))
 
   pub from-add : (f : ℕ → List A) (e i k : ℕ) → gatherFrom f e (i + k) ≡ gatherFrom f e i ++ gatherFrom f (e + i) k
+  unfolding gatherFrom
   from-add f e i k =
       gather-add (λ j. f (e + j)) i k
       ∙ ap (λ (x : List A). gatherFrom f e i ++ x) (gather-same (λ j. f (e + (i + j))) (λ j. f (e + i + j)) k (λ j l. ap f (let g : e + (i + j) ≡ e + i + j = omega arith in g)))
+
+  pub from-start : (f : ℕ → List A) (n : ℕ) → gatherFrom f 0 n ≡ gather f n
+  unfolding gatherFrom
+  from-start f n = gather-same (λ j. f (0 + j)) f n (λ j l. ap f (zero-add j))
+
+  pub length-from : (f : ℕ → List A) (w : ℕ) → ((i : ℕ) → length (f i) ≡ w) → (e n : ℕ) → length (gatherFrom f e n) ≡ n * w
+  unfolding gatherFrom
+  length-from f w wide e n = length-gather (λ j. f (e + j)) w (λ j. wide (e + j)) n
 
   -- rows that are equally long as far as it matters
   pub length-rows-below : (f : ℕ → List A) (k n : ℕ) → ((v : ℕ) → v < n → length (f v) ≡ k) → length (gather f n) ≡ n * k

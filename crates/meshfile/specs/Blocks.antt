@@ -12,5 +12,5 @@ pub record Put {A : Type 0} (old : List A) (at : ℕ) (block new : List A) : Typ
   pub is : new ≡ put old at block
 
 -- the lists f e, .., f (e + n - 1), one after the other
-abbrev pub gatherFrom : {A : Type 0} → (ℕ → List A) → ℕ → ℕ → List A
+unfoldable pub gatherFrom : {A : Type 0} → (ℕ → List A) → ℕ → ℕ → List A
 gatherFrom f e n = gather (λ j. f (e + j)) n

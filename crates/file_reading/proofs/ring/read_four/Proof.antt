@@ -2,7 +2,7 @@
 use native.Mathlib.Omega.{arith}
 use borrow.Author.Needs.{needs}
 use lib.ListN.{length-set}
-use Rattle.file_reading.proofs.RowsRead.{four-is, number-is}
+use Rattle.file_reading.proofs.RowsRead.{four-read}
 use Rattle.file_reading.proofs.ring.read_four.Statement.{statement}
 use Rattle.file_reading.proofs.ring.read_four.Tie as tie
 
@@ -90,8 +90,7 @@ returns c =
     let b = a .bytes .now in
     let f = a .from in
     let i = a .i in
-    four-is (number-is b f i 0 (omega arith) (c .before .before .before .two-at .ensures .0)) (number-is b f i 1 (omega arith) (c .before .before .two-at2 .ensures .0))
-    (number-is b f i 2 (omega arith) (c .before .two-at3 .ensures .0)) (number-is b f i 3 (omega arith) (c .two-at4 .ensures .0)) (omega arith)
+    four-read b f i (c .before .before .before .two-at .ensures .0) (c .before .before .two-at2 .ensures .0) (c .before .two-at3 .ensures .0) (c .two-at4 .ensures .0) (omega arith)
 
 pub read-four-spec : {M : Type 1} → statement M
 read-four-spec =

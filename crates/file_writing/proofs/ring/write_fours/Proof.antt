@@ -6,7 +6,7 @@ use borrow.Author.Needs.{needs}
 use lib.ListN.{length}
 use Rattle.meshfile.specs.Blocks.{Put, gatherFrom}
 use Rattle.file_writing.specs.Write.{neighbourBytes}
-use Rattle.meshfile.proofs.Blocks.{put-none, put-length, put-is, from-next}
+use Rattle.meshfile.proofs.Blocks.{from-none, put-length, put-is, from-next}
 use Rattle.file_writing.proofs.RowsWritten.{length-part-bytes}
 use Rattle.file_writing.proofs.ring.write_fours.Statement.{statement}
 use Rattle.file_writing.proofs.ring.write_fours.Tie as tie
@@ -19,7 +19,7 @@ abbrev μ-loop : tie.MeasureT-loop
 μ-loop file₀ at ring i₀ file i = length ring - i
 
 loop-holds : tie.Need-loop-holds Inv-loop μ-loop
-loop-holds c = (omega arith, (refl, (refl, put-none (omega arith))))
+loop-holds c = let a = c .before .before .args in (omega arith, (refl, (refl, from-none (neighbourBytes (a .ring .now)) 4 (omega arith))))
 
 add-loop : tie.Need-add-loop Inv-loop μ-loop
 add-loop c = search needs
