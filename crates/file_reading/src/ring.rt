@@ -1,5 +1,4 @@
 // A ring of a file: its neighbours, and the null vertex in the unused places. Neighbours are read four at a time, which a processor does at once.
-ghost use mathlib.Core.Path.{_≡_};
 ghost use Prim.Native.Nat.{_+_, _-_, _*_, _/_, _≤_};
 ghost use lib.ListN.{length, replicate};
 ghost use Rattle.rings.specs.Table.{gather, padded};

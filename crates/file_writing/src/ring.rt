@@ -1,5 +1,4 @@
 // The neighbours of a ring as bytes. They are written four at a time, which a processor does at once.
-ghost use mathlib.Core.Path.{_≡_};
 ghost use Prim.Native.Nat.{_+_, _-_, _*_, _/_, _≤_};
 ghost use lib.ListN.{length};
 ghost use Rattle.rings.specs.Table.{gather};

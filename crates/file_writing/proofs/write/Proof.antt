@@ -4,7 +4,6 @@ use native.Mathlib.Omega.{arith}
 use mathlib.Core.Path.{sym, _∙_}
 use Rattle.rings.proofs.Checks.{told-most, long-tables}
 use Rattle.file_writing.specs.Storing.{Stored}
-use Rattle.meshfile.proofs.Blocks.{put-length}
 use Rattle.file_writing.proofs.RowsWritten.{stored, file-put, write-bad, write-short, write-over, write-full, write-done}
 use Rattle.file_writing.proofs.write.Statement.{statement}
 use Rattle.file_writing.proofs.write.Tie as tie
@@ -44,23 +43,23 @@ put-head-requires c κs = search needs
 
 put-two-requires : tie.Need-put-two-requires
 put-two-requires c κs =
-    let a = put-length (c .before .before .before .put-head .ensures) in
+    let a = c .before .before .before .put-head .kept .0 in
     let r = c .before .before .before .before .before .if4 .left in
     omega arith
 
 put-rows-requires : tie.Need-put-rows-requires
 put-rows-requires c κs =
-    let a = put-length (c .before .before .before .before .before .before .before .put-head .ensures) in
-    let d = put-length (c .before .before .before .put-two .ensures) in
+    let a = c .before .before .before .before .before .before .before .put-head .kept .0 in
+    let d = c .before .before .before .put-two .kept .0 in
     let r = c .before .before .before .before .before .before .before .before .before .if4 .left in
     let s = c .before .before .before .before .before .before .before .before .before .before .rows-length .ensures .0 in
     (omega arith, held (c .before .before .before .before .before .before .before .before .before .before .before))
 
 put-head-requires-2 : tie.Need-put-head-requires-2
 put-head-requires-2 c κs =
-    let a = put-length (c .before .before .before .before .before .before .before .before .before .before .before .put-head .ensures) in
-    let d = put-length (c .before .before .before .before .before .before .before .put-two .ensures) in
-    let e = put-length (c .before .before .before .put-rows .ensures .0) in
+    let a = c .before .before .before .before .before .before .before .before .before .before .before .put-head .kept .0 in
+    let d = c .before .before .before .before .before .before .before .put-two .kept .0 in
+    let e = c .before .before .before .put-rows .kept .0 in
     let f = c .before .before .before .put-rows .ensures .1 in
     let r = c .before .before .before .before .before .before .before .before .before .before .before .before .before .if4 .left in
     let s = c .before .before .before .before .before .before .before .before .before .before .before .before .before .before .rows-length .ensures .0 in

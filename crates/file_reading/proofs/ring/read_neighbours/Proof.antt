@@ -4,7 +4,7 @@ use native.Mathlib.Nat.{add-zero}
 use native.Mathlib.Omega.{arith}
 use mathlib.Core.Path.{refl}
 use Rattle.meshfile.specs.Layout.{neighbourAt}
-use Rattle.meshfile.proofs.Blocks.{put-length, by-fours}
+use Rattle.meshfile.proofs.Blocks.{by-fours}
 use Rattle.file_reading.proofs.ring.read_neighbours.Statement.{statement}
 use Rattle.file_reading.proofs.ring.read_neighbours.Tie as tie
 

@@ -7,7 +7,7 @@ use lib.ListN.{length}
 use Rattle.rings.specs.Table.{gather}
 use Rattle.meshfile.specs.Blocks.{Put}
 use Rattle.file_writing.specs.Write.{neighbourBytes}
-use Rattle.meshfile.proofs.Blocks.{rows-none, rows-next, rows-all, put-length}
+use Rattle.meshfile.proofs.Blocks.{rows-none, rows-next, rows-all}
 use Rattle.file_writing.proofs.RowsWritten.{length-neighbour-bytes}
 use Rattle.file_writing.proofs.ring.write_each.Statement.{statement}
 use Rattle.file_writing.proofs.ring.write_each.Tie as tie
@@ -50,7 +50,7 @@ loop-again c =
     let l = c .before .before .before .before .before .before .loop in
     let p = c .before .before .put-two .ensures in
     let r = c .before .before .before .before .before .before .before .before .before .args .ring .now in
-    (search needs, (put-length p ∙ l .inv .1 .0, rows-next (neighbourBytes r) (l .i) (l .inv .1 .1) p (omega (arith, length-neighbour-bytes r (l .i)))))
+    (search needs, (c .before .before .put-two .kept .0 ∙ l .inv .1 .0, rows-next (neighbourBytes r) (l .i) (l .inv .1 .1) p (omega (arith, length-neighbour-bytes r (l .i)))))
 
 same-length : tie.Need-same-length Inv-loop μ-loop
 same-length c = c .before .loop .inv .1 .0

@@ -1,12 +1,12 @@
 -- `write_fours` meets its contract. Assumes nothing.
-use Prim.Native.Nat.{ℕ, _+_, _-_, _*_, _/_, _%_, _≤_}
-use mathlib.Core.Path.{_≡_, refl, ap, subst, _∙_}
+use Prim.Native.Nat.{_+_, _-_, _*_, _/_, _%_, _≤_}
+use mathlib.Core.Path.{_≡_, refl, ap, _∙_}
 use native.Mathlib.Omega.{arith}
 use borrow.Author.Needs.{needs}
 use lib.ListN.{length}
 use Rattle.meshfile.specs.Blocks.{Put, gatherFrom}
 use Rattle.file_writing.specs.Write.{neighbourBytes}
-use Rattle.meshfile.proofs.Blocks.{from-none, put-length, put-is, from-next}
+use Rattle.meshfile.proofs.Blocks.{from-none, put-is, from-next}
 use Rattle.file_writing.proofs.RowsWritten.{length-part-bytes}
 use Rattle.file_writing.proofs.ring.write_fours.Statement.{statement}
 use Rattle.file_writing.proofs.ring.write_fours.Tie as tie
@@ -50,7 +50,7 @@ loop-again c =
       (
         let z = l .inv .1 .0 in omega arith,
         (
-          put-length w ∙ l .inv .1 .1 .0,
+          c .before .before .write-four .kept .0 ∙ l .inv .1 .1 .0,
           from-next (neighbourBytes (a .ring .now)) 4 (l .i) 4 (l .inv .1 .1 .1) w (omega (arith, length-part-bytes (a .ring .now) 4 (l .i))),
         ),
       ),

@@ -8,7 +8,7 @@ use lib.ListN.{length}
 use Rattle.rings.specs.Table.{gather, ringOf, coordinateAt}
 use Rattle.meshfile.specs.Blocks.{Put}
 use Rattle.file_writing.specs.Write.{rowBytes, rowsLength}
-use Rattle.meshfile.proofs.Blocks.{rows-none, rows-next, rows-all, put-length}
+use Rattle.meshfile.proofs.Blocks.{rows-none, rows-next, rows-all}
 use Rattle.file_writing.proofs.RowsWritten.{length-none, length-more, length-within, stored-row, rows-long}
 use Rattle.file_writing.proofs.rows.put_rows.Statement.{statement}
 use Rattle.file_writing.proofs.rows.put_rows.Tie as tie
@@ -50,7 +50,7 @@ loop-again c =
     let w = c .before .before .put-row .ensures in (
       search needs,
       (
-        put-length (w .0) ∙ l .inv .1 .0,
+        c .before .before .put-row .kept .0 ∙ l .inv .1 .0,
         (
           omega (arith, w .1, length-more vs (l .v)),
           rows-next (rowBytes (ringOf vs (s .args .rings .now)) (coordinateAt (s .args .positions .now))) (l .v) (l .inv .1 .1 .1) (w .0) (omega (arith, rows-long (s .pre .1) (l .v) (l .inv .0))),
