@@ -5,7 +5,6 @@ use mathlib.Core.List.{List, [], _∷_, _++_}
 use native.Mathlib.Numerals.{add-one}
 use native.Mathlib.Omega.{arith}
 use lib.ListN.{length, getD, take, set, replicate, length-replicate, replicate-append-replicate}
-use lib.Dec.{lit≤}
 use lib.Seq.{set-split, take-suc, length-take-le}
 use Rattle.rings.specs.Table.{put, padded}
 use Rattle.rings.proofs.Tables.{put-nothing, length-put, put-more}
@@ -46,15 +45,3 @@ pub row-padded : (t : List ℕ) (a : ℕ) (ring : List ℕ) → a + 32 ≤ lengt
     → put (put t a ring) (a + length ring) (replicate (32 - length ring) 65535) ≡ put t a (padded ring)
 unfolding padded
 row-padded t a ring h l = put-more t a ring (omega arith) (replicate (32 - length ring) 65535) (simp length-replicate (omega arith))
-
--- six places and the unused ones behind them
-pub six-written : (t : List ℕ) (a u v w x y z : ℕ) {now : List ℕ} → a + 32 ≤ length t
-    → now ≡ put (set (set (set (set (set (set t a u) (a + 1) v) (a + 2) w) (a + 3) x) (a + 4) y) (a + 5) z) (a + 6) (replicate 26 65535)
-    → now ≡ put t a (padded (u ∷ v ∷ w ∷ x ∷ y ∷ z ∷ []))
-six-written t a u v w x y z h q =
-    let e₁ = put-next t a (u ∷ []) (put-one t a u (omega arith)) (omega arith) v in
-    let e₂ = put-next t a (u ∷ v ∷ []) e₁ (omega arith) w in
-    let e₃ = put-next t a (u ∷ v ∷ w ∷ []) e₂ (omega arith) x in
-    let e₄ = put-next t a (u ∷ v ∷ w ∷ x ∷ []) e₃ (omega arith) y in
-    let e₅ = put-next t a (u ∷ v ∷ w ∷ x ∷ y ∷ []) e₄ (omega arith) z in
-    rw (q, e₅) (row-padded t a (u ∷ v ∷ w ∷ x ∷ y ∷ z ∷ []) h (lit≤ tt))

@@ -77,31 +77,31 @@ module _ {n : ℕ} {vs rs : List ℕ} (r : Ready n vs rs) where
       old-before e g = o .place p h k g ∙ ap (mid M p) (before-place k e)
 
     module _ (q : ℕ) (e : q ≡ getD (ringOf vs rs p) i 0) where
-      q-in : q ∈ M .ring p
+      pub q-in : q ∈ M .ring p
       q-in = rw (rows-ring n vs rs p h, e) (getD-in (ringOf vs rs p) i 0 place-known)
 
       pub neighbour-lt : q < n
       unfolding rows
       neighbour-lt = edge-lt M (r .sound) p q h q-in
 
-      neighbour-ne : q ≢ p
+      pub neighbour-ne : q ≢ p
       unfolding rows
       neighbour-ne = edge-ne M (r .sound) p q h q-in
 
-      p-in : p ∈ M .ring q
+      pub p-in : p ∈ M .ring q
       unfolding rows
       p-in = r .sound .mutual′ p q h q-in
 
       -- b and a of the edge p, q, seen from q
-      after-back : prev (M .ring p) q ≡ next (M .ring q) p
+      pub after-back : prev (M .ring p) q ≡ next (M .ring q) p
       unfolding rows
       after-back = prev-next M (r .sound) p q h q-in
 
-      before-back : prev (M .ring q) p ≡ next (M .ring p) q
+      pub before-back : prev (M .ring q) p ≡ next (M .ring p) q
       unfolding rows
       before-back = prev-next M (r .sound) q p neighbour-lt p-in
 
-      p-there : p ∈ ringOf vs rs q
+      pub p-there : p ∈ ringOf vs rs q
       p-there = rw (rows-ring n vs rs q neighbour-lt) at p-in
 
       mid-small : mid M p q < 65536

@@ -107,6 +107,11 @@ pub point-by : (μ : Mask) (ps : List ℤ) (x y z : ℤ) → x ≡ byMask μ (co
 unfolding pointBy
 point-by μ ps x y z a b c = rw (a, b, c)
 
+-- what a call of the vertex formula asks
+pub vertex-fits : {at : ℕ → ℤ} {v s : ℕ} {x : ℤ} (ring : List ℕ) → 3 ≤ length ring → length ring ≤ 32 → Read at v x → SumOf ring at s
+    → (3 ≤ length ring) × ((length ring ≤ 32) × (InRange (toZ w32 (ofZ w32 x)) × (s ≤ length ring * 2097152)))
+vertex-fits ring l m a w = (l, (m, (read-in a, w .small)))
+
 -- ---- a ring of tables that are ready
 
 pub ready-least : {n : ℕ} {vs rs : List ℕ} (r : Ready n vs rs) {v : ℕ} → v < n → 3 ≤ getD vs v 0
@@ -122,11 +127,6 @@ module _ {n : ℕ} {vs rs : List ℕ} (r : Ready n vs rs) {p : ℕ} (h : p < n) 
 
   pub ring-all-below : AllBelow n ring
   ring-all-below = record { below = ring-below }
-
-  -- what a call of the vertex formula asks
-  pub vertex-fits : {at : ℕ → ℤ} {x : ℤ} {s : ℕ} → Read at p x → SumOf ring at s
-      → (3 ≤ getD vs p 0) × ((getD vs p 0 ≤ 32) × (InRange (toZ w32 (ofZ w32 x)) × (s ≤ getD vs p 0 * 2097152)))
-  vertex-fits a w = (ready-least r h, (r .most p h, (read-in a, let k = ring-places in let m = w .small in omega arith)))
 
   pub new-point-is : (ps : List ℤ) (i j k : ℕ) → i < length ring → j ≡ placeAfter (length ring) i → k ≡ placeBefore (length ring) i
       → pointBy (edgeMask p (getD ring i 0) (getD ring j 0) (getD ring k 0)) ps ≡ edgePointBy (ringOf vs rs p) ps p (getD (ringOf vs rs p) i 0)

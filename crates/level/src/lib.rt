@@ -3,7 +3,6 @@
 pub mod numbers;
 pub mod points;
 pub mod rows;
-pub mod write;
 
 // The ring of a new vertex of the edge p, q, in order: p, m(p,b), m(q,b), q, m(q,a), m(p,a).
 pub struct NewRing {
@@ -17,7 +16,7 @@ pub struct NewRing {
 
 // The sums of the three coordinates of some points, each moved up.
 pub struct Sums {
-    pub x: u64,
-    pub y: u64,
-    pub z: u64,
+    pub x: u32,
+    pub y: u32,
+    pub z: u32,
 }

@@ -3,6 +3,7 @@ ghost use mathlib.Core.Path.{_≡_};
 ghost use Prim.Native.Nat.{_+_, _*_, _≤_, _<_};
 ghost use lib.ListN.{length, getD};
 ghost use Rattle.mesh.specs.Loop.{edgeMask, vertexMask};
+ghost use Rattle.mesh.specs.Ring.{placeAfter, placeBefore};
 ghost use Rattle.units.specs.Coordinate.{InRange};
 ghost use Rattle.rings.specs.Table.{put, ringOf};
 ghost use Rattle.level.specs.Level.{Ready, Near, AllBelow, SumsOf, pointBy, edgePointBy, coordinates};
@@ -23,9 +24,9 @@ fn ring_sums(ring: &[u16], positions: &[i32], count: usize) -> Sums
     requires { ⌜ AllBelow count (now ring) ⌝ }
     ensures { λ r. ⌜ SumsOf (now (ring .entry)) (now (positions .entry)) r ⌝ }
 {
-    let mut x: u64 = 0;
-    let mut y: u64 = 0;
-    let mut z: u64 = 0;
+    let mut x: u32 = 0;
+    let mut y: u32 = 0;
+    let mut z: u32 = 0;
     let mut i = 0;
     while i < ring.len() {
         let a = (ring[i] as usize) * 3;
@@ -35,6 +36,27 @@ fn ring_sums(ring: &[u16], positions: &[i32], count: usize) -> Sums
         i += 1;
     }
     Sums { x, y, z }
+}
+
+// The point of old vertex v, which has this ring, on the next level.
+pub fn ring_point(ring: &[u16], positions: &[i32], count: usize, v: usize) -> Point
+    requires { ⌜ Near count (now positions) ⌝ }
+    requires { ⌜ count ≤ 65535 ⌝ }
+    requires { ⌜ 3 ≤ length (now ring) ⌝ }
+    requires { ⌜ length (now ring) ≤ 32 ⌝ }
+    requires { ⌜ AllBelow count (now ring) ⌝ }
+    requires { ⌜ v < count ⌝ }
+    ensures { λ r. ⌜ r ≡ pointBy (vertexMask v (now (ring .entry))) (now (positions .entry)) ⌝ }
+    ensures { λ r. ⌜ InRange (r .x) × InRange (r .y) × InRange (r .z) ⌝ }
+{
+    let n = ring.len() as u32;
+    let s = ring_sums(ring, positions, count);
+    let a = v * 3;
+    Point {
+        x: vertex_point(n, positions[a], s.x),
+        y: vertex_point(n, positions[a + 1], s.y),
+        z: vertex_point(n, positions[a + 2], s.z),
+    }
 }
 
 // The point of old vertex v on the next level.
@@ -51,14 +73,7 @@ pub fn old_point(
     ensures { λ r. ⌜ r ≡ pointBy (vertexMask v (ringOf (now (valences .entry)) (now (rings .entry)) v)) (now (positions .entry)) ⌝ }
     ensures { λ r. ⌜ InRange (r .x) × InRange (r .y) × InRange (r .z) ⌝ }
 {
-    let n = valences[v] as u64;
-    let s = ring_sums(ring_of(valences, rings, v), positions, count);
-    let a = v * 3;
-    Point {
-        x: vertex_point(n, positions[a], s.x),
-        y: vertex_point(n, positions[a + 1], s.y),
-        z: vertex_point(n, positions[a + 2], s.z),
-    }
+    ring_point(ring_of(valences, rings, v), positions, count, v)
 }
 
 // The point of the new vertex of the edge p, q, with the vertices a and b beside it.
@@ -90,6 +105,23 @@ fn edge_point_of(positions: &[i32], count: usize, p: usize, q: usize, a: usize, 
     }
 }
 
+// The point of the new vertex of the edge from p, which has this ring, to the neighbour at place i.
+pub fn edge_point_at(ring: &[u16], positions: &[i32], count: usize, p: usize, i: usize) -> Point
+    requires { ⌜ Near count (now positions) ⌝ }
+    requires { ⌜ count ≤ 65535 ⌝ }
+    requires { ⌜ AllBelow count (now ring) ⌝ }
+    requires { ⌜ p < count ⌝ }
+    requires { ⌜ i < length (now ring) ⌝ }
+    ensures { λ r. ⌜ r ≡ pointBy (edgeMask p (getD (now (ring .entry)) i 0) (getD (now (ring .entry)) (placeAfter (length (now (ring .entry))) i) 0) (getD (now (ring .entry)) (placeBefore (length (now (ring .entry))) i) 0)) (now (positions .entry)) ⌝ }
+    ensures { λ r. ⌜ InRange (r .x) × InRange (r .y) × InRange (r .z) ⌝ }
+{
+    let n = ring.len();
+    let q = ring[i] as usize;
+    let a = ring[place_after(n, i)] as usize;
+    let b = ring[place_before(n, i)] as usize;
+    edge_point_of(positions, count, p, q, a, b)
+}
+
 // The point of the new vertex of the edge from p to the neighbour at place i of p.
 pub fn new_point(
     valences: &[u16],
@@ -106,12 +138,7 @@ pub fn new_point(
     ensures { λ r. ⌜ r ≡ edgePointBy (ringOf (now (valences .entry)) (now (rings .entry)) p) (now (positions .entry)) p (getD (ringOf (now (valences .entry)) (now (rings .entry)) p) i 0) ⌝ }
     ensures { λ r. ⌜ InRange (r .x) × InRange (r .y) × InRange (r .z) ⌝ }
 {
-    let ring = ring_of(valences, rings, p);
-    let n = ring.len();
-    let q = ring[i] as usize;
-    let a = ring[place_after(n, i)] as usize;
-    let b = ring[place_before(n, i)] as usize;
-    edge_point_of(positions, count, p, q, a, b)
+    edge_point_at(ring_of(valences, rings, p), positions, count, p, i)
 }
 
 // Writes the point of vertex v.

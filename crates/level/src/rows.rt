@@ -1,15 +1,14 @@
-// Rings of the next level: their places, and writing them.
+// Rings of the next level: their places.
 ghost use mathlib.Core.Path.{_≡_};
-ghost use Prim.Native.Nat.{_+_, _-_, _*_, _≤_, _<_};
-ghost use lib.ListN.{length, getD, replicate};
-ghost use Rattle.mesh.specs.Refine.{mid, oldRing, newRing};
+ghost use Prim.Native.Nat.{_<_};
+ghost use lib.ListN.{getD};
+ghost use Rattle.mesh.specs.Refine.{mid, newRing};
 ghost use Rattle.mesh.specs.Ring.{next, prev};
-ghost use Rattle.rings.specs.Table.{put, ringOf, rows, padded};
+ghost use Rattle.rings.specs.Table.{ringOf, rows};
 ghost use Rattle.level.specs.Level.{Ready, HasOld, startOf, placesOf};
 use super::NewRing;
 use super::numbers::rank;
 use rings::MOST_VALENCE;
-use rings::NULL_VERTEX;
 use rings::ring::place_after;
 use rings::ring::place_before;
 use rings::ring::seek;
@@ -40,39 +39,6 @@ pub fn middle(
     }
     let j = seek(ring_of(valences, rings, q), p);
     rings[(count + q) * MOST_VALENCE + j] as usize
-}
-
-// Writes the null vertex into the unused places of a row, from place `used` on.
-fn write_unused(rings: &mut [u16], row: usize, used: usize)
-    requires { ⌜ row ≤ 1048576 ⌝ }
-    requires { ⌜ row * 32 + 32 ≤ length (now rings) ⌝ }
-    requires { ⌜ used ≤ 32 ⌝ }
-    ensures { λ _. ⌜ now (rings .exit) ≡ put (now (rings .entry)) (row * 32 + used) (replicate (32 - used) 65535) ⌝ }
-{
-    let a = row * MOST_VALENCE;
-    let mut k = used;
-    while k < MOST_VALENCE {
-        rings[a + k] = NULL_VERTEX;
-        k += 1;
-    }
-}
-
-// Writes the ring of old vertex p on the next level.
-pub fn write_old_ring(valences: &[u16], rings: &mut [u16], count: usize, p: usize, start: usize)
-    requires { ⌜ Ready count (now valences) (now rings) ⌝ }
-    requires { ⌜ p < count ⌝ }
-    requires { ⌜ start ≡ startOf count (now valences) (now rings) p ⌝ }
-    requires { ⌜ HasOld count (now valences) (now rings) p ⌝ }
-    ensures { λ _. ⌜ now (rings .exit) ≡ put (now (rings .entry)) ((count + p) * 32) (padded (oldRing (rows count (now (valences .entry)) (now (rings .entry))) p)) ⌝ }
-{
-    let n = valences[p] as usize;
-    let a = (count + p) * MOST_VALENCE;
-    let mut k = 0;
-    while k < n {
-        rings[a + k] = middle(valences, rings, count, p, start, k) as u16;
-        k += 1;
-    }
-    write_unused(rings, count + p, n);
 }
 
 // m(v, next(u in v)) for the neighbour u at place i of v, as the new ring of v has it.
@@ -122,20 +88,4 @@ pub fn around(valences: &[u16], rings: &[u16], count: usize, p: usize, i: usize)
         qa,
         pa,
     }
-}
-
-// Writes the ring of a new vertex into a row.
-pub fn write_new_ring(rings: &mut [u16], row: usize, ring: NewRing)
-    requires { ⌜ row ≤ 1048576 ⌝ }
-    requires { ⌜ row * 32 + 32 ≤ length (now rings) ⌝ }
-    ensures { λ _. ⌜ now (rings .exit) ≡ put (now (rings .entry)) (row * 32) (padded (placesOf ring)) ⌝ }
-{
-    let a = row * MOST_VALENCE;
-    rings[a] = ring.p;
-    rings[a + 1] = ring.pb;
-    rings[a + 2] = ring.qb;
-    rings[a + 3] = ring.q;
-    rings[a + 4] = ring.qa;
-    rings[a + 5] = ring.pa;
-    write_unused(rings, row, 6);
 }

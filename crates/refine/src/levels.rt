@@ -7,7 +7,7 @@ ghost use Rattle.rings.specs.declared.Counted.the-variants.{Counts};
 ghost use Rattle.refine.specs.Accepts.{AcceptsStack};
 ghost use Rattle.refine.specs.Refinement.{stackedValences, stackedRings, stackedPositions};
 use super::stack::edge_count;
-use level::write::write_level;
+use next_level::write::write_level;
 use rings::Counted;
 use rings::MOST_VALENCE;
 

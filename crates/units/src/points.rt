@@ -9,11 +9,11 @@ ghost use Rattle.units.specs.Points.{edgePoint, vertexPoint};
 use super::OFFSET;
 
 // c moved up by the offset.
-pub fn biased(c: i32) -> u64
+pub fn biased(c: i32) -> u32
     requires { ⌜ InRange c ⌝ }
     ensures { λ r. ⌜ Biased offset c r ⌝ }
 {
-    (c + OFFSET as i32) as u64
+    (c + OFFSET as i32) as u32
 }
 
 // a - b, for two numbers that an `i32` holds.
@@ -24,7 +24,7 @@ pub fn difference(a: u64, b: u64) -> i32
     (a as i32) - (b as i32)
 }
 
-// n / d to the nearest whole number, halves upward. The library rounds nowhere else.
+// n / d to the nearest whole number, halves upward. The library rounds here and in `nearest_even` only.
 pub fn nearest(n: u64, d: u64) -> u64
     requires { ⌜ n < 2 ^ 62 ⌝ ∗ ⌜ d < 2 ^ 61 ⌝ ∗ ⌜ 0 < d ⌝ }
     ensures { λ r. ⌜ r ≡ roundNat n d ⌝ }
@@ -32,13 +32,21 @@ pub fn nearest(n: u64, d: u64) -> u64
     (2 * n + d) / (2 * d)
 }
 
-// The mean n / d, rounded and moved down again: n adds coordinates that were moved up, with weights
-// that make up d.
-pub fn coordinate(n: u64, d: u64) -> i32
-    requires { ⌜ n ≤ (offset + mostUnits) * d ⌝ ∗ ⌜ d ≤ 8 * mostValence ⌝ ∗ ⌜ 0 < d ⌝ }
-    ensures { λ r. ⌜ (r ≡ rounded (subℕ n (offset * d)) d) × InRange r ⌝ }
+// n / 2h to the nearest whole number, halves upward, in 32 bits.
+fn nearest_even(n: u32, h: u32) -> u32
+    requires { ⌜ n < 2 ^ 31 ⌝ ∗ ⌜ h < 2 ^ 30 ⌝ ∗ ⌜ 0 < h ⌝ }
+    ensures { λ r. ⌜ r ≡ roundNat n (2 * h) ⌝ }
 {
-    difference(nearest(n, d), OFFSET)
+    (n + h) / (2 * h)
+}
+
+// The mean n / 2h, rounded and moved down again: n adds coordinates that were moved up, with weights
+// that make up 2h.
+pub fn coordinate(n: u32, h: u32) -> i32
+    requires { ⌜ n ≤ (offset + mostUnits) * (2 * h) ⌝ ∗ ⌜ h ≤ 4 * mostValence ⌝ ∗ ⌜ 0 < h ⌝ }
+    ensures { λ r. ⌜ (r ≡ rounded (subℕ n (offset * (2 * h))) (2 * h)) × InRange r ⌝ }
+{
+    difference(nearest_even(n, h) as u64, OFFSET)
 }
 
 // The new vertex of edge p, q, whose two faces have the further corners a and b.
@@ -47,21 +55,21 @@ pub fn edge_point(p: i32, q: i32, a: i32, b: i32) -> i32
     ensures { λ r. ⌜ (r ≡ edgePoint p q a b) × InRange r ⌝ }
 {
     let n = 3 * (biased(p) + biased(q)) + biased(a) + biased(b);
-    coordinate(n, 8)
+    coordinate(n, 4)
 }
 
 // The old vertex v with n neighbours, where s adds them, each moved up. With six of them, as nearly
 // all vertices of a refined mesh have, the fraction comes down to sixteenths and asks no division.
-pub fn vertex_point(n: u64, v: i32, s: u64) -> i32
+pub fn vertex_point(n: u32, v: i32, s: u32) -> i32
     requires { ⌜ leastValence ≤ n ⌝ ∗ ⌜ n ≤ mostValence ⌝ ∗ ⌜ InRange v ⌝ ∗ ⌜ s ≤ n * (offset + mostUnits) ⌝ }
     ensures { λ r. ⌜ (r ≡ vertexPoint n v (subℕ s (n * offset))) × InRange r ⌝ }
 {
     let w = biased(v);
     if n == 3 {
-        return coordinate(7 * w + 3 * s, 16);
+        return coordinate(7 * w + 3 * s, 8);
     }
     if n == 6 {
-        return coordinate(10 * w + s, 16);
+        return coordinate(10 * w + s, 8);
     }
-    coordinate(5 * n * w + 3 * s, 8 * n)
+    coordinate(5 * n * w + 3 * s, 4 * n)
 }

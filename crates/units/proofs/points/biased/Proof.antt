@@ -6,7 +6,7 @@ use borrow.Author.Needs.{needs}
 use lib.Dec.{T, lit≤, lit<}
 use lib.IntN.{ℤ, pos, natAbs, subℕ, _+ℤ_}
 use lib.Signed.{nonNeg}
-use mir.Syntax.{w32, w64}
+use mir.Syntax.{w32}
 use mir.Val.{SFits, Fits}
 use Rattle.mesh.specs.Limits.{mostUnits}
 use Rattle.units.specs.Coordinate.{offset}
@@ -26,7 +26,7 @@ add-result c =
 cast-result-2 : tie.Need-cast-result-2
 cast-result-2 c =
     let z = c .args .c in
-    subst (λ (x : ℤ). T (nonNeg x) × Fits w64 (natAbs x)) (sym (bias-sum offset z (lit≤ tt) (lit< tt) (c .pre)))
+    subst (λ (x : ℤ). T (nonNeg x) × Fits w32 (natAbs x)) (sym (bias-sum offset z (lit≤ tt) (lit< tt) (c .pre)))
     (tt, record { fits = omega (arith, bias-le offset mostUnits z (c .pre)) })
 
 returns : tie.Need-returns

@@ -1,5 +1,5 @@
 -- `points::vertex_point` meets its contract. Assumes nothing.
-use mathlib.Core.Path.{_≡_, refl, sym, ap, _∙_}
+use mathlib.Core.Path.{_≡_, refl, sym, ap, subst, _∙_}
 use mathlib.Core.Bool.{Bool, cond}
 use Prim.Native.Nat.{ℕ, _+_, _*_, _≤_}
 use native.Mathlib.Nat.{mul-le-mul-left}
@@ -38,6 +38,10 @@ sixteenths : {r : ℤ} (w s : ℕ) → (r ≡ rounded (subℕ (10 * w + s) (offs
 sixteenths w s h =
     let e : 3 * (10 * w + s) ≡ 30 * w + 3 * s = omega arith in
     (h .0 ∙ rounded-factor 3 (10 * w + s) offset 16 (lit< tt) (lit< tt) refl ∙ ap (λ (k : ℕ). rounded (subℕ k (offset * 48)) 48) e, h .1)
+
+-- the divisor as the formula has it
+eighths : {r : ℤ} (m n : ℕ) → (r ≡ rounded (subℕ m (offset * (2 * (4 * n)))) (2 * (4 * n))) × InRange r → (r ≡ rounded (subℕ m (offset * (8 * n))) (8 * n)) × InRange r
+eighths {r} m n h = let e : 2 * (4 * n) ≡ 8 * n = omega arith in subst (λ (d : ℕ). (r ≡ rounded (subℕ m (offset * d)) d) × InRange r) e h
 
 -- what a call of `coordinate` gives where v has the weight k, and each of its n neighbours the weight 3
 by-weights : {v r : ℤ} {w : ℕ} (k d n s : ℕ) → k * offset + 3 * (n * offset) ≡ offset * d → Is v w offset
@@ -119,7 +123,7 @@ returns-3 c =
     let n = st .args .n in
     let v = st .args .v in
     let s = st .args .s in
-    let g = by-weights (5 * n) (8 * n) n s (omega arith) (from v (st .pre .1 .1 .0) (b .biased .ensures)) (c .coordinate3 .ensures) in
+    let g = by-weights (5 * n) (8 * n) n s (omega arith) (from v (st .pre .1 .1 .0) (b .biased .ensures)) (eighths (5 * n * b .biased .result + 3 * s) n (c .coordinate3 .ensures)) in
     (g .0 ∙ sym (other n v (subℕ s (n * offset)) (c .before .before .if1 .left)), g .1)
 
 pub vertex-point-spec : {M : Type 1} → statement M

@@ -1,0 +1,2 @@
+-- How the next level is written.
+pub mod Nearer
