@@ -86,7 +86,7 @@ module _ {n : ℕ} {vs rs : List ℕ} (r : Ready n vs rs) where
     unfolding rows
     new-below = let m = E.mid-range M (r .sound .proper) (r .sound .mutual′) p q h edge-there in omega arith
 
-    new-is : refine M .ring x ≡ newRing M p q
+    pub new-is : refine M .ring x ≡ newRing M p q
     unfolding rows newRing
     new-is = ap (refine M .ring) e ∙ R.new-ring M (r .sound) p q o h edge-there ∙ rw (R.prev-next M (r .sound) p q h edge-there)
 

@@ -126,11 +126,12 @@ module _ (n levels : ℕ) (vs rs : List ℕ) (ps : List ℤ) (a : AcceptsStack n
       stands = level-as-refined n levels vs rs ps a k (omega arith) (rw ends at (z .clear))
 
       pub reached-asks : Ready m (take (length vs - base) (drop base vs)) (take (length rs - base * 32) (drop (base * 32) rs))
-          × ((m + (m + edges (rows m (take (length vs - base) (drop base vs)) (take (length rs - base * 32) (drop (base * 32) rs))))) * 3 ≤ length (take (length ps - base * 3) (drop (base * 3) ps)))
+          × ((m + e ≡ m + edges (rows m (take (length vs - base) (drop base vs)) (take (length rs - base * 32) (drop (base * 32) rs))))
+          × ((m + (m + edges (rows m (take (length vs - base) (drop base vs)) (take (length rs - base * 32) (drop (base * 32) rs))))) * 3 ≤ length (take (length ps - base * 3) (drop (base * 3) ps))))
       reached-asks =
           let r = reached-room in
-          rw (part-is vs base (omega arith), part-is rs (base * 32) (omega arith), part-is ps (base * 3) (omega arith), z .sized .vertices, z .begins)
-          (part-ready n levels vs rs ps a k l stands, part-points n levels vs rs ps a k l stands)
+          rw (part-is vs base (omega arith), part-is rs (base * 32) (omega arith), part-is ps (base * 3) (omega arith), z .sized .vertices, z .sized .edges, z .begins)
+          (part-ready n levels vs rs ps a k l stands, (ap (λ (d : ℕ). size n vs rs k + d) (sym (part-edges n levels vs rs ps a k l stands)), part-points n levels vs rs ps a k l stands))
 
       module _ (x : ℕ)
           (q : x

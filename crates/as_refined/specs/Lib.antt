@@ -1,2 +1,3 @@
--- Reason 11.
+-- Reason 11, and what its quick pass tells.
 pub mod Expected
+pub mod Agreement

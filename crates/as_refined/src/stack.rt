@@ -6,7 +6,7 @@ ghost use Rattle.rings.specs.Table.{rows};
 ghost use Rattle.refine.specs.Refinement.{stackVerdict};
 ghost use Rattle.rings.specs.declared.Verdict.the-variants.{Accepted};
 ghost use Rattle.as_refined.specs.Expected.{whole, strange};
-use super::next_level::first_strange_next;
+use super::quick::first_strange_level;
 use rings::MOST_VALENCE;
 
 // Reason 11: the first stack vertex that is not as refinement gives it, or beyond the range; or the number of stack vertices.
@@ -27,11 +27,12 @@ pub fn first_strange(
     let mut e = edge_count;
     let mut k = 0;
     while k < levels {
-        let x = first_strange_next(
+        let x = first_strange_level(
             &valences[base..],
             &rings[base * MOST_VALENCE..],
             &positions[base * 3..],
             n,
+            n + e,
         );
         if x < n + e {
             return base + n + x;

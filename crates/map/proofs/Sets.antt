@@ -9,19 +9,19 @@ use native.Mathlib.Numerals.{add-one}
 use native.Mathlib.Omega.{arith}
 use lib.ListN.{length, getD, set}
 use lib.Seq.{getD-set-same, getD-set-other, ext-getD}
-use lib.Pow.{pow-lt}
+use lib.Pow.{pow-lt, shr-shr}
 use lib.Bits.{bitOr}
-use lib.Count.{ones}
+use lib.Count.{ones, under, trailingZeros}
 use borrow.Author.Tests.{lt-ltb, le-ltb, eq-eqb, ne-eqb}
 use lib.Dec.{ltb}
 use mathlib.Core.Bool.{_&&_}
 use mathlib.Core.List.{[], _∷_}
 use Rattle.mesh.specs.Search.{bit, sum}
 use Rattle.mesh.proofs.Lists.{eq-split, lt-split, sum-zero}
-use Rattle.rings.specs.Table.{gather, put}
+use Rattle.rings.specs.Table.{put}
 use Rattle.rings.proofs.Tables.{length-gather, gather-at, length-put, put-within, put-behind}
-use Rattle.map.specs.Map.{bitOf, marked, wordCount, word, mapWords, members, onesIn, including, emptied, Words}
-use Rattle.map.proofs.Bits.{sum-lt, bit-sum, bits-ext, members-same, members-add, ones-bits, bit-none, bit-set-here, bit-set-else}
+use Rattle.map.specs.Map.{bitOf, marked, wordCount, word, mapWords, members, onesIn, including, emptied, NoneFrom, Words}
+use Rattle.map.proofs.Bits.{bit-low, bit-suc, sum-lt, bit-sum, bits-ext, members-same, members-add, ones-bits, bit-none, bit-set-here, bit-set-else}
 
 -- the vertex of a bit
 pub marked-at : (m : List ℕ) (w k : ℕ) → k < 32 → marked m (w * 32 + k) ≡ bitOf (getD m w 0) k
@@ -35,9 +35,34 @@ pub marked-of : (m : List ℕ) (i : ℕ) → marked m i ≡ bitOf (getD m (i / 3
 unfolding marked
 marked-of m i = refl
 
+-- ---- the bits below a word's lowest one
+
+trailing-clear : (k w j : ℕ) → j < trailingZeros k w → bitOf w j ≡ false
+unfolding trailingZeros
+trailing-clear zero w j h = absurd (omega arith)
+trailing-clear (suc k) w j h = go (w % 2) refl j h (trailing-clear k (w / 2))
+  where
+    go : (d : ℕ) → w % 2 ≡ d → (j : ℕ) → j < under d (trailingZeros k (w / 2)) → ((i : ℕ) → i < trailingZeros k (w / 2) → bitOf (w / 2) i ≡ false) → bitOf w j ≡ false
+    go zero e zero h rest = bit-low w ∙ rw e
+    go zero e (suc j) h rest = bit-suc w j ∙ rest j (omega arith)
+    go (suc d) e j h rest = absurd (omega arith)
+
+bit-shift : (w s j : ℕ) → bitOf (w / 2 ^ s) j ≡ bitOf w (s + j)
+unfolding bitOf
+bit-shift w s j = rw (shr-shr w s j)
+
+-- as many numbers from i on as the word shows, and no more than it has
+pub none-ahead : (m : List ℕ) (i run k : ℕ) → run ≡ trailingZeros 32 (getD m (i / 32) 0 / 2 ^ (i % 32)) → k ≤ run → k ≤ 32 - i % 32 → NoneFrom (marked m) i k
+none-ahead m i run k e h g = record {
+  none = λ j l.
+      let d : (i + j) / 32 ≡ i / 32 = omega arith in
+      let r : (i + j) % 32 ≡ i % 32 + j = omega arith in
+      marked-of m (i + j) ∙ rw (d, r) (sym (bit-shift (getD m (i / 32) 0) (i % 32) j) ∙ trailing-clear 32 (getD m (i / 32) 0 / 2 ^ (i % 32)) j (omega arith));
+}
+
 -- ---- one bit set
 
-including-here : (s : ℕ → Bool) (i : ℕ) → including s i i ≡ true
+pub including-here : (s : ℕ → Bool) (i : ℕ) → including s i i ≡ true
 unfolding including
 including-here s i = rw (eq-eqb i i refl)
 

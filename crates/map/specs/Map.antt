@@ -1,5 +1,6 @@
 -- The map of touched points, as section "Moves" has it: 32-bit words, number i in bit i mod 32 of word i / 32.
 -- Assumes nothing.
+use mathlib.Core.Path.{_≡_}
 use mathlib.Core.Bool.{Bool, true, false, cond, _&&_}
 use mathlib.Core.List.{List, [], _∷_}
 use Prim.Native.Nat.{ℕ, _+_, _*_, _/_, _%_, _^_, _<_}
@@ -44,6 +45,10 @@ including set i j = cond (eqb j i) true (set j)
 -- the set without its members below n
 unfoldable pub emptied : ℕ → (ℕ → Bool) → ℕ → Bool
 emptied n set j = cond (ltb j n) false (set j)
+
+-- k numbers from a place on are not in the set
+pub record NoneFrom (set : ℕ → Bool) (from k : ℕ) : Type 0 where
+  pub none : (i : ℕ) → i < k → set (from + i) ≡ false
 
 -- each word is a 32-bit word
 pub record Words (m : List ℕ) : Type 0 where

@@ -2,7 +2,7 @@
 ghost use mathlib.Core.Path.{_≡_};
 ghost use Prim.Native.Nat.{_*_, _/_, _≤_, _<_};
 ghost use lib.ListN.{length};
-ghost use Rattle.map.specs.Map.{marked, wordCount, members, onesIn, including, emptied};
+ghost use Rattle.map.specs.Map.{marked, NoneFrom, wordCount, members, onesIn, including, emptied};
 
 // How many words the map of `total` points needs.
 pub fn words_for(total: usize) -> usize
@@ -18,6 +18,26 @@ pub fn is_marked(map: &[u32], i: usize) -> bool
     ensures { λ r. ⌜ r ≡ marked (now (map .entry)) i ⌝ }
 {
     (map[i / 32] >> ((i % 32) as u32)) % 2 == 1
+}
+
+// How many numbers from i on are unmarked, as far as `most` and the end of i's word.
+pub fn clear_ahead(map: &[u32], i: usize, most: usize) -> usize
+    requires { ⌜ i / 32 < length (now map) ⌝ }
+    ensures { λ r. ⌜ r ≤ most ⌝ }
+    ensures { λ r. ⌜ NoneFrom (marked (now (map .entry))) i r ⌝ }
+{
+    let run = u32::trailing_zeros(map[i / 32] >> ((i % 32) as u32)) as usize;
+    let rest = 32 - i % 32;
+    if run < rest {
+        if run < most {
+            return run;
+        }
+        return most;
+    }
+    if rest < most {
+        return rest;
+    }
+    most
 }
 
 // Marks number i.

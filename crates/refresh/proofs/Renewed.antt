@@ -4,6 +4,7 @@ use mathlib.Core.Path.{_≡_, refl, sym, ap, subst, _∙_, fun-ext}
 use mathlib.Core.Bool.{Bool, true, false, cond}
 use mathlib.Core.List.{List, [], _∷_}
 use mathlib.Core.Logic.{⊎-elim, _≢_}
+use native.Mathlib.Nat.{add-zero}
 use native.Mathlib.Omega.{arith}
 use lib.IntN.{ℤ, pos}
 use lib.ListN.{length, getD}
@@ -24,7 +25,7 @@ use Rattle.map.specs.Map.{marked, including}
 use Rattle.map.proofs.Sets.{including-else}
 use Rattle.level.specs.Level.{Levels, pointBy, coordinates, nextPoint}
 use Rattle.level.proofs.Written.{gather-step}
-use Rattle.refresh.specs.NextLevel.{from, touchedNext, marksWith, marksUpTo, renewed, pointsWith, pointsUpTo, OldMarked, NextUnmarked}
+use Rattle.refresh.specs.NextLevel.{from, touchedNext, marksWith, marksUpTo, renewed, pointsWith, pointsUpTo, OldMarked, UntouchedFrom}
 use Rattle.refresh.proofs.Touched.{next-same}
 
 -- ---- one vertex judged, as the code does it
@@ -72,14 +73,14 @@ module _ (M : Mesh) (base : ℕ) (set : ℕ → Bool) where
   marks-none : set ≡ marksUpTo M base set 0
   marks-none = fun-ext (λ j. ⊎-elim (λ h. sym (marks-before 0 j (h .1))) (λ h. sym (marks-behind 0 j (omega arith))) (lt-split j (base + M .count)))
 
-  -- one vertex
-  with-here : (x : ℕ) → set (base + M .count + x) ≡ false → marksWith M base set x (base + M .count + x) ≡ touchedNext M (from base set) x
+  -- one vertex, which is in the set only where it is touched
+  with-here : (x : ℕ) → (touchedNext M (from base set) x ≡ false → set (base + M .count + x) ≡ false) → marksWith M base set x (base + M .count + x) ≡ touchedNext M (from base set) x
   unfolding marksWith including
-  with-here x h = go (touchedNext M (from base set) x)
+  with-here x h = go (touchedNext M (from base set) x) refl
     where
-      go : (b : Bool) → cond b (including set (base + M .count + x)) set (base + M .count + x) ≡ b
-      go true = rw (eq-eqb (base + M .count + x) (base + M .count + x) refl)
-      go false = h
+      go : (b : Bool) → touchedNext M (from base set) x ≡ b → cond b (including set (base + M .count + x)) set (base + M .count + x) ≡ b
+      go true e = rw (eq-eqb (base + M .count + x) (base + M .count + x) refl)
+      go false e = h e
 
   with-else : (x j : ℕ) → j ≢ base + M .count + x → marksWith M base set x j ≡ set j
   unfolding marksWith
@@ -88,6 +89,14 @@ module _ (M : Mesh) (base : ℕ) (set : ℕ → Bool) where
       go : (b : Bool) → cond b (including set (base + M .count + x)) set j ≡ set j
       go true = including-else set (base + M .count + x) j h
       go false = refl
+
+  -- a vertex that is in the set where it is touched goes into it without effect
+  pub with-same : (x : ℕ) → set (base + M .count + x) ≡ touchedNext M (from base set) x → set ≡ marksWith M base set x
+  with-same x h = fun-ext (λ j.
+      ⊎-elim
+      (λ q. rw (q .1) (h ∙ sym (with-here x (λ e. h ∙ e))))
+      (λ q. sym (with-else x j (q .1)))
+      (eq-split j (base + M .count + x)))
 
   -- one more
   marks-more : (k j : ℕ) → j ≢ base + M .count + k → marksUpTo M base set (k + 1) j ≡ marksUpTo M base set k j
@@ -198,10 +207,13 @@ module _ {n : ℕ} {vs rs : List ℕ} {ps₀ : List ℤ} (L : Levels n vs rs ps�
   unfolding nextPoint rows loop level refine
   next-kept axis x a h = byMask-same (loop M) (loop-grounded M (L .ready .sound)) 0 x h (coordinateAt ps axis) (coordinateAt ps₀ axis) (λ v l. point-before axis v a l)
 
-  pub old-marked : n ≤ k → OldMarked M base (marked map)
+  pub old-marked : OldMarked M base before → OldMarked M base (marked map)
   unfolding rows
-  old-marked h = record {
-    old = λ v l. ap (λ (s : ℕ → Bool). s (base + n + v)) (d .marks) ∙ marks-at M base before k v (omega arith) ∙ sym (touched-kept v (omega arith));
+  old-marked o = record {
+    old = λ v l.
+        ap (λ (s : ℕ → Bool). s (base + n + v)) (d .marks)
+        ∙ ⊎-elim (λ s. marks-at M base before k v (s .1)) (λ s. marks-behind M base before k (base + n + v) (let z = s .1 in omega arith) ∙ o .old v l) (lt-split v k)
+        ∙ sym (touched-kept v (omega arith));
   }
 
   module _ (less : k < n + edges (rows n vs rs)) where
@@ -220,7 +232,7 @@ module _ {n : ℕ} {vs rs : List ℕ} {ps₀ : List ℤ} (L : Levels n vs rs ps�
             held-same ps (n + k) (let l = refreshed-long in let r = L .points in omega arith)
             ∙ ap (put ps ((n + k) * 3)) (three (point-behind 0 k (omega arith)) (point-behind 1 k (omega arith)) (point-behind 2 k (omega arith)))
 
-    pub refreshed-more : NextUnmarked M base (marked map₀) → {map′ : List ℕ} {ps′ : List ℤ} → length map′ ≡ length map
+    pub refreshed-more : (touchedNext M (from base before) k ≡ false → before (base + n + k) ≡ false) → {map′ : List ℕ} {ps′ : List ℤ} → length map′ ≡ length map
         → marked map′ ≡ marksWith M base (marked map) k → ps′ ≡ pointsWith M base (marked map) ps k → Refreshed M base map₀ ps₀ (k + 1) map′ ps′
     unfolding pointsUpTo pointRows rows
     refreshed-more u {map′} {ps′} l m p =
@@ -240,7 +252,26 @@ module _ {n : ℕ} {vs rs : List ℕ} {ps₀ : List ℤ} (L : Levels n vs rs ps�
         at j =
             ⊎-elim
             (λ q. rw (q .1)
-            (with-here M base (marked map) k (was (base + n + k) ∙ marks-behind M base before k (base + n + k) (omega arith) ∙ u .unmarked k less)
+            (with-here M base (marked map) k (λ z. was (base + n + k) ∙ marks-behind M base before k (base + n + k) (omega arith) ∙ u (sym (touched-kept k less) ∙ z))
             ∙ touched-kept k less ∙ sym (marks-at M base before (k + 1) k (omega arith))))
             (λ q. with-else M base (marked map) k j (q .1) ∙ was j ∙ sym (marks-more M base before k j (q .1)))
             (eq-split j (base + n + k))
+
+-- ---- vertices that are untouched, passed over
+
+-- a vertex of the next level that is untouched is not in the set
+pub record Quiet (M : Mesh) (base : ℕ) (set : ℕ → Bool) : Type 0 where
+  pub quiet : (x : ℕ) → x < M .count + edges M → touchedNext M (from base set) x ≡ false → set (base + M .count + x) ≡ false
+
+module _ {n : ℕ} {vs rs : List ℕ} {ps₀ : List ℤ} (L : Levels n vs rs ps₀) {base : ℕ} (map₀ : List ℕ) (quiet : Quiet (rows n vs rs) base (marked map₀)) (map : List ℕ) (ps : List ℤ) where
+  abbrev N : Mesh
+  N = rows n vs rs
+
+  pub refreshed-skip : (j : ℕ) {k : ℕ} → Refreshed N base map₀ ps₀ k map ps → k + j ≤ n + edges N → UntouchedFrom N base (marked map) k j → Refreshed N base map₀ ps₀ (k + j) map ps
+  unfolding rows
+  refreshed-skip zero {k} d h u = rw (add-zero k) d
+  refreshed-skip (suc j) {k} d h u =
+      let e : k + j + 1 ≡ k + suc j = omega arith in
+      let t = refreshed-skip j d (omega arith) (record { untouched = λ i l. u .untouched i (omega arith) }) in
+      let z = u .untouched j (omega arith) in
+      rw (← e) (refreshed-more L t (omega arith) (omega arith) (quiet .quiet (k + j) (omega arith)) refl (marks-no N base (marked map) (k + j) false (sym z) refl) (points-no N base (marked map) (k + j) false (sym z) refl ps))

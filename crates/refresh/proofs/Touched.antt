@@ -3,15 +3,17 @@ use Prim.Native.Nat.{ℕ, _+_, _≤_, _<_}
 use mathlib.Core.Path.{_≡_, refl, sym, ap, _∙_, fun-ext}
 use mathlib.Core.Bool.{Bool, true, false, _||_}
 use mathlib.Core.List.{List, [], _∷_, map}
-use native.Mathlib.Numerals.{add-one}
+use mathlib.Core.Logic.{⊎-elim}
 use native.Mathlib.Omega.{arith}
-use lib.ListN.{length, getD, drop, drop-of-length-le}
-use lib.Seq.{drop-cons}
-use Rattle.mesh.specs.Ring.{_∈_, placeAfter, placeBefore, next, prev}
+use lib.ListN.{length, getD}
+use borrow.Author.Tests.{eq-eqb}
+use Rattle.mesh.specs.Ring.{times, _∈_, placeAfter, placeBefore, next, prev}
 use Rattle.mesh.specs.Mesh.{Mesh, Sound, edges}
 use Rattle.mesh.specs.Refine.{mid, refine, level}
 use Rattle.mesh.specs.Mask.{Mask, anySource, touched}
 use Rattle.mesh.specs.Loop.{term, edgeMask, loopMask, loop}
+use Rattle.mesh.proofs.Lists.{eq-split}
+use Rattle.mesh.proofs.First.{true-not-false}
 use Rattle.mesh.proofs.Rings.{getD-in}
 use Rattle.mesh.proofs.Levels.{loop-grounded}
 use Rattle.mesh.proofs.EdgeNumbers.{mid-in-range}
@@ -21,7 +23,7 @@ use Rattle.rings.specs.Table.{ringOf, rows}
 use Rattle.rings.proofs.Rows.{rows-ring}
 use Rattle.level.specs.Level.{Ready}
 use Rattle.level.proofs.Mids.{ready-length, after-place, before-place}
-use Rattle.refresh.specs.NextLevel.{from, anyIn, touchedNext, InMap}
+use Rattle.refresh.specs.NextLevel.{from, touchedNext, InMap}
 
 pub from-at : (set : ℕ → Bool) (base v : ℕ) → set (base + v) ≡ from base set v
 unfolding from
@@ -33,20 +35,32 @@ in-map a m h = let s = m .small in let r = m .room in record { small = omega ari
 pub in-map-long : {end : ℕ} {map map′ : List ℕ} → InMap end map → length map′ ≡ length map → InMap end map′
 in-map-long m e = record { small = m .small; room = rw e (m .room) }
 
--- ---- a ring, place by place
+-- ---- a ring
 
-module _ (set : ℕ → Bool) (ring : List ℕ) (i : ℕ) (e : anyIn set ring ≡ anyIn set (drop i ring)) where
-  any-next : i < length ring → anyIn set ring ≡ (set (getD ring i 0) || anyIn set (drop (i + 1) ring))
-  any-next h = e ∙ ap (anyIn set) (drop-cons ring i 0 h) ∙ ap (λ (k : ℕ). set (getD ring i 0) || anyIn set (drop k ring)) (sym (add-one i))
+-- some vertex of a ring is in the set
+abbrev anyIn : (ℕ → Bool) → List ℕ → Bool
+anyIn set [] = false
+anyIn set (u ∷ ring) = set u || anyIn set ring
 
-  pub any-found : i < length ring → (b : Bool) → b ≡ set (getD ring i 0) → b ≡ true → true ≡ anyIn set ring
-  any-found h b q t = sym (any-next h ∙ ap (λ (x : Bool). x || anyIn set (drop (i + 1) ring)) (sym q ∙ t))
+or-true : (a : Bool) → a || true ≡ true
+or-true true = refl
+or-true false = refl
 
-  pub any-more : i < length ring → (b : Bool) → b ≡ set (getD ring i 0) → b ≡ false → anyIn set ring ≡ anyIn set (drop (i + 1) ring)
-  any-more h b q t = any-next h ∙ ap (λ (x : Bool). x || anyIn set (drop (i + 1) ring)) (sym q ∙ t)
+any-of : (set : ℕ → Bool) (ring : List ℕ) (u : ℕ) → u ∈ ring → set u ≡ true → anyIn set ring ≡ true
+any-of set [] u m e = absurd (omega arith)
+any-of set (a ∷ ring) u m e =
+    ⊎-elim
+    (λ q. ap (λ (b : Bool). b || anyIn set ring) (ap set (sym (q .1)) ∙ e))
+    (λ q. ap (λ (b : Bool). set a || b) (any-of set ring u (let k : 0 < 0 + times u ring = rw (q .0) at m in omega arith) e) ∙ or-true (set a))
+    (eq-split u a)
 
-  pub any-end : length ring ≤ i → false ≡ anyIn set ring
-  any-end h = sym (e ∙ ap (anyIn set) (drop-of-length-le ring h))
+any-by : (set : ℕ → Bool) (ring : List ℕ) → anyIn set ring ≡ true → {C : Type 0} → ((u : ℕ) → u ∈ ring → set u ≡ true → C) → C
+any-by set [] e k = absurd (true-not-false e refl)
+any-by set (a ∷ ring) e {C} k = go (set a) refl (λ h. any-by set ring h (λ u m t. k u (omega arith) t))
+  where
+    go : (b : Bool) → set a ≡ b → (anyIn set ring ≡ true → C) → C
+    go true q rest = k a (rw (eq-eqb a a refl) (omega arith)) q
+    go false q rest = rest (rw q at e)
 
 any-terms : (set : ℕ → Bool) (ring : List ℕ) → anySource set (map (term 3) ring) ≡ anyIn set ring
 any-terms set [] = refl
@@ -66,6 +80,20 @@ module _ (M : Mesh) (below : ℕ → Bool) where
   old-touched : (v : ℕ) → v < M .count → touchedNext M below v ≡ (below v || anyIn below (M .ring v))
   old-touched v h = by-mask v _ (old-mask M v h) ∙ ap (λ (b : Bool). below v || b) (any-terms below (M .ring v))
 
+  -- by itself, by a neighbour, and only so
+  pub touched-self : (v : ℕ) → v < M .count → below v ≡ true → touchedNext M below v ≡ true
+  touched-self v h e = old-touched v h ∙ ap (λ (b : Bool). b || anyIn below (M .ring v)) e
+
+  pub touched-beside : (v u : ℕ) → v < M .count → u ∈ M .ring v → below u ≡ true → touchedNext M below v ≡ true
+  touched-beside v u h m e = old-touched v h ∙ ap (λ (b : Bool). below v || b) (any-of below (M .ring v) u m e) ∙ or-true (below v)
+
+  pub touched-by : (v : ℕ) → v < M .count → touchedNext M below v ≡ true → {C : Type 0} → (below v ≡ true → C) → ((u : ℕ) → u ∈ M .ring v → below u ≡ true → C) → C
+  touched-by v h e {C} self beside = go (below v) refl
+    where
+      go : (b : Bool) → below v ≡ b → C
+      go true q = self q
+      go false q = any-by below (M .ring v) (rw q at (sym (old-touched v h) ∙ e)) beside
+
   module _ (S : Sound M) where
     -- the new vertex of an edge is untouched where the lesser end is
     pub low-untouched : (p q : ℕ) → p < q → p < M .count → q ∈ M .ring p → touchedNext M below p ≡ false → touchedNext M below (mid M p q) ≡ false
@@ -84,17 +112,6 @@ module _ (M : Mesh) (below : ℕ → Bool) where
     next-same below′ same x h = touched-same (loop M) (loop-grounded M S) below below′ same 1 x h
 
 -- ---- as the code tests it
-
-module _ (n : ℕ) (vs rs : List ℕ) (below : ℕ → Bool) (v : ℕ) (h : v < n) (b : Bool) (e : b ≡ below v) where
-  pub old-self : b ≡ true → true ≡ touchedNext (rows n vs rs) below v
-  unfolding rows
-  old-self t = sym (old-touched (rows n vs rs) below v h ∙ ap (λ (x : Bool). x || anyIn below (rows n vs rs .ring v)) (sym e ∙ t))
-
-  pub old-ring : b ≡ false → (ring : List ℕ) → ring ≡ ringOf vs rs v → (r : Bool) → r ≡ anyIn below ring → r ≡ touchedNext (rows n vs rs) below v
-  unfolding rows
-  old-ring t ring q r a =
-      a ∙ ap (anyIn below) (q ∙ sym (rows-ring n vs rs v h))
-      ∙ sym (old-touched (rows n vs rs) below v h ∙ ap (λ (x : Bool). x || anyIn below (rows n vs rs .ring v)) (sym e ∙ t))
 
 module _ (set : ℕ → Bool) (base p q a b : ℕ) (w : Bool) (e : w ≡ set (base + p)) where
   pub edge-p : w ≡ true → true ≡ anySource (from base set) (edgeMask p q a b .terms)

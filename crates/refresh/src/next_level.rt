@@ -2,20 +2,21 @@
 // that begin where the level below begins, and the next level lies right behind it. The map is whole:
 // the level below has the numbers from `base` on, and the next level those right behind.
 ghost use mathlib.Core.Path.{_≡_};
-ghost use Prim.Native.Nat.{_+_, _*_, _≤_, _<_};
+ghost use Prim.Native.Nat.{_+_, _-_, _*_, _≤_, _<_};
 ghost use lib.ListN.{length, getD};
 ghost use Rattle.mesh.specs.Mesh.{edges};
 ghost use Rattle.mesh.specs.Mask.{anySource};
 ghost use Rattle.mesh.specs.Loop.{edgeMask};
-ghost use Rattle.mesh.specs.Ring.{next, prev};
+ghost use Rattle.mesh.specs.Ring.{next};
 ghost use Rattle.mesh.specs.Refine.{mid};
 ghost use Rattle.rings.specs.Table.{ringOf, rows};
 ghost use Rattle.map.specs.Map.{marked};
 ghost use Rattle.level.specs.Level.{Ready, Levels, AllBelow};
-ghost use Rattle.refresh.specs.NextLevel.{from, anyIn, touchedNext, marksWith, pointsWith, marksUpTo, pointsUpTo, InMap, NextRings, OldMarked, NextUnmarked};
+ghost use Rattle.refresh.specs.NextLevel.{from, touchedNext, marksWith, pointsWith, marksUpTo, pointsUpTo, InMap, NextRings, OldMarked, NextUnmarked, UntouchedFrom, RingMarked, AroundMarked, MarkedBy, OldJudged};
 use level::points::new_point;
 use level::points::old_point;
 use level::points::set_point;
+use map::clear_ahead;
 use map::is_marked;
 use map::mark;
 use rings::MOST_VALENCE;
@@ -24,40 +25,66 @@ use rings::ring::place_before;
 use rings::ring::seek;
 use rings::table::ring_of;
 
-// Is a vertex of this ring marked?
-fn any_marked(map: &[u32], ring: &[u16], base: usize, count: usize) -> bool
-    requires { ⌜ InMap (base + count) (now map) ⌝ }
+// Marks the vertices of a ring, numbered from `start` on.
+fn mark_ring(map: &mut [u32], ring: &[u16], start: usize, count: usize)
+    requires { ⌜ InMap (start + count) (now map) ⌝ }
     requires { ⌜ AllBelow count (now ring) ⌝ }
-    ensures { λ r. ⌜ r ≡ anyIn (from base (marked (now (map .entry)))) (now (ring .entry)) ⌝ }
+    ensures { λ _. ⌜ RingMarked (now (ring .entry)) (length (now (ring .entry))) start (marked (now (map .entry))) (marked (now (map .exit))) ⌝ }
 {
     let mut i = 0;
     while i < ring.len() {
-        if is_marked(map, base + (ring[i] as usize)) {
-            return true;
-        }
+        mark(map, start + (ring[i] as usize));
         i += 1;
     }
-    false
 }
 
-// Is old vertex v touched on the next level: is it marked, or a neighbour?
-fn is_old_touched(
-    map: &[u32],
+// Marks the old vertices of the next level that depend on vertex t: t and its neighbours.
+fn mark_around(
+    map: &mut [u32],
     valences: &[u16],
     rings: &[u16],
     base: usize,
     count: usize,
-    v: usize,
-) -> bool
-    requires { ⌜ InMap (base + count) (now map) ⌝ }
+    t: usize,
+)
+    requires { ⌜ InMap (base + (count + count)) (now map) ⌝ }
     requires { ⌜ Ready count (now valences) (now rings) ⌝ }
-    requires { ⌜ v < count ⌝ }
-    ensures { λ r. ⌜ r ≡ touchedNext (rows count (now (valences .entry)) (now (rings .entry))) (from base (marked (now (map .entry)))) v ⌝ }
+    requires { ⌜ t < count ⌝ }
+    ensures { λ _. ⌜ AroundMarked (rows count (now (valences .entry)) (now (rings .entry))) base t (marked (now (map .entry))) (marked (now (map .exit))) ⌝ }
 {
-    if is_marked(map, base + v) {
-        return true;
+    mark(map, base + count + t);
+    mark_ring(map, ring_of(valences, rings, t), base + count, count);
+}
+
+// Marks them, if t is marked.
+fn mark_by(map: &mut [u32], valences: &[u16], rings: &[u16], base: usize, count: usize, t: usize)
+    requires { ⌜ InMap (base + (count + count)) (now map) ⌝ }
+    requires { ⌜ Ready count (now valences) (now rings) ⌝ }
+    requires { ⌜ t < count ⌝ }
+    ensures { λ _. ⌜ MarkedBy (rows count (now (valences .entry)) (now (rings .entry))) base t (marked (now (map .entry))) (marked (now (map .exit))) ⌝ }
+{
+    if is_marked(map, base + t) {
+        mark_around(map, valences, rings, base, count, t);
     }
-    any_marked(map, ring_of(valences, rings, v), base, count)
+}
+
+// Marks the touched ones of the old vertices of the next level.
+fn mark_old(map: &mut [u32], valences: &[u16], rings: &[u16], base: usize, count: usize)
+    requires { ⌜ InMap (base + (count + count)) (now map) ⌝ }
+    requires { ⌜ Ready count (now valences) (now rings) ⌝ }
+    requires { ⌜ NextUnmarked (rows count (now valences) (now rings)) base (marked (now map)) ⌝ }
+    ensures { λ _. ⌜ OldJudged (rows count (now (valences .entry)) (now (rings .entry))) base (marked (now (map .entry))) (marked (now (map .exit))) ⌝ }
+{
+    let mut t = 0;
+    while t < count {
+        let skip = clear_ahead(map, base + t, count - t);
+        if skip == 0 {
+            mark_by(map, valences, rings, base, count, t);
+            t += 1;
+        } else {
+            t += skip;
+        }
+    }
 }
 
 // Is an end of the edge p, q marked, or one of the vertices a and b beside it?
@@ -103,9 +130,9 @@ fn is_new_touched(
     is_edge_marked(map, base, p, q, a, b)
 }
 
-// Marks and sets old vertex v on the next level, if it is touched.
+// Sets old vertex v on the next level, if it is touched; it is marked then.
 fn refresh_old(
-    map: &mut [u32],
+    map: &[u32],
     positions: &mut [i32],
     valences: &[u16],
     rings: &[u16],
@@ -116,11 +143,10 @@ fn refresh_old(
     requires { ⌜ InMap (base + (count + (count + edges (rows count (now valences) (now rings))))) (now map) ⌝ }
     requires { ⌜ Levels count (now valences) (now rings) (now positions) ⌝ }
     requires { ⌜ v < count ⌝ }
-    ensures { λ _. ⌜ marked (now (map .exit)) ≡ marksWith (rows count (now (valences .entry)) (now (rings .entry))) base (marked (now (map .entry))) v ⌝ }
+    requires { ⌜ OldMarked (rows count (now valences) (now rings)) base (marked (now map)) ⌝ }
     ensures { λ _. ⌜ now (positions .exit) ≡ pointsWith (rows count (now (valences .entry)) (now (rings .entry))) base (marked (now (map .entry))) (now (positions .entry)) v ⌝ }
 {
-    if is_old_touched(map, valences, rings, base, count, v) {
-        mark(map, base + count + v);
+    if is_marked(map, base + count + v) {
         let point = old_point(valences, rings, positions, count, v);
         set_point(positions, count + v, point);
     }
@@ -184,6 +210,86 @@ fn refresh_new(
     }
 }
 
+// Marks and sets vertex x of the next level, if it is touched.
+fn refresh_vertex(
+    map: &mut [u32],
+    positions: &mut [i32],
+    valences: &[u16],
+    rings: &[u16],
+    base: usize,
+    count: usize,
+    x: usize,
+)
+    requires { ⌜ InMap (base + (count + (count + edges (rows count (now valences) (now rings))))) (now map) ⌝ }
+    requires { ⌜ Levels count (now valences) (now rings) (now positions) ⌝ }
+    requires { ⌜ NextRings count (now valences) (now rings) ⌝ }
+    requires { ⌜ x < count + edges (rows count (now valences) (now rings)) ⌝ }
+    requires { ⌜ OldMarked (rows count (now valences) (now rings)) base (marked (now map)) ⌝ }
+    ensures { λ _. ⌜ marked (now (map .exit)) ≡ marksWith (rows count (now (valences .entry)) (now (rings .entry))) base (marked (now (map .entry))) x ⌝ }
+    ensures { λ _. ⌜ now (positions .exit) ≡ pointsWith (rows count (now (valences .entry)) (now (rings .entry))) base (marked (now (map .entry))) (now (positions .entry)) x ⌝ }
+{
+    if x < count {
+        refresh_old(map, positions, valences, rings, base, count, x);
+    } else {
+        refresh_new(map, positions, valences, rings, base, count, x);
+    }
+}
+
+// How many of `most` rows that begin at place a, 16, 4 or 1, are seen at once to begin below a bound: the last of them does, and their first places ascend.
+fn run_below(rings: &[u16], a: usize, most: usize, bound: usize) -> usize
+    requires { ⌜ a + most * 32 ≤ length (now rings) ⌝ }
+    requires { ⌜ a + most * 32 ≤ 33554432 ⌝ }
+    requires { ⌜ 0 < most ⌝ }
+    requires { ⌜ getD (now rings) a 0 < bound ⌝ }
+    ensures { λ r. ⌜ 0 < r ⌝ }
+    ensures { λ r. ⌜ r ≤ most ⌝ }
+    ensures { λ r. ⌜ getD (now (rings .entry)) (a + (r - 1) * 32) 0 < bound ⌝ }
+{
+    if 16 <= most {
+        if (rings[a + 480] as usize) < bound {
+            return 16;
+        }
+    }
+    if 4 <= most {
+        if (rings[a + 96] as usize) < bound {
+            return 4;
+        }
+    }
+    1
+}
+
+// How many vertices of the next level from x on are seen at once to be untouched. The lesser ends of
+// new vertices ascend, and where none of them is touched, no new vertex is.
+fn untouched_ahead(
+    map: &[u32],
+    valences: &[u16],
+    rings: &[u16],
+    base: usize,
+    count: usize,
+    above: usize,
+    x: usize,
+) -> usize
+    requires { ⌜ InMap (base + (count + (count + edges (rows count (now valences) (now rings))))) (now map) ⌝ }
+    requires { ⌜ Ready count (now valences) (now rings) ⌝ }
+    requires { ⌜ NextRings count (now valences) (now rings) ⌝ }
+    requires { ⌜ above ≡ count + edges (rows count (now valences) (now rings)) ⌝ }
+    requires { ⌜ x < above ⌝ }
+    requires { ⌜ OldMarked (rows count (now valences) (now rings)) base (marked (now map)) ⌝ }
+    ensures { λ r. ⌜ r ≤ above - x ⌝ }
+    ensures { λ r. ⌜ UntouchedFrom (rows count (now (valences .entry)) (now (rings .entry))) base (marked (now (map .entry))) x r ⌝ }
+{
+    if x < count {
+        return clear_ahead(map, base + count + x, count - x);
+    }
+    let a = (count + x) * MOST_VALENCE;
+    let low = rings[a] as usize;
+    let free = clear_ahead(map, base + count + low, count - low);
+    if free == 0 {
+        return 0;
+    }
+    run_below(rings, a, above - x, low + free)
+}
+
 // Marks and sets the touched ones of the `above` vertices of the next level: the old, then the new.
 pub fn refresh_next(
     map: &mut [u32],
@@ -202,13 +308,15 @@ pub fn refresh_next(
     ensures { λ _. ⌜ marked (now (map .exit)) ≡ marksUpTo (rows count (now (valences .entry)) (now (rings .entry))) base (marked (now (map .entry))) (count + edges (rows count (now (valences .entry)) (now (rings .entry)))) ⌝ }
     ensures { λ _. ⌜ now (positions .exit) ≡ pointsUpTo (rows count (now (valences .entry)) (now (rings .entry))) base (marked (now (map .entry))) (now (positions .entry)) (count + edges (rows count (now (valences .entry)) (now (rings .entry)))) ⌝ }
 {
+    mark_old(map, valences, rings, base, count);
     let mut x = 0;
     while x < above {
-        if x < count {
-            refresh_old(map, positions, valences, rings, base, count, x);
+        let skip = untouched_ahead(map, valences, rings, base, count, above, x);
+        if skip == 0 {
+            refresh_vertex(map, positions, valences, rings, base, count, x);
+            x += 1;
         } else {
-            refresh_new(map, positions, valences, rings, base, count, x);
+            x += skip;
         }
-        x += 1;
     }
 }

@@ -15,50 +15,53 @@ abbrev μ-loop : tie.MeasureT-loop
 loop-holds : tie.Need-loop-holds Inv-loop μ-loop
 loop-holds c = reached-none _ _ _ _ _ (stack-only _ _ _ _ _ (c .before .before .pre .0)) _ (c .before .before .pre .1)
 
-mul-first-strange-next : tie.Need-mul-first-strange-next Inv-loop μ-loop
-mul-first-strange-next c = omega (arith, reached-small _ _ _ _ _ (stack-only _ _ _ _ _ (c .before .before .before .before .pre .0)) (c .before .loop .inv))
+mul-first-strange-level : tie.Need-mul-first-strange-level Inv-loop μ-loop
+mul-first-strange-level c = omega (arith, reached-small _ _ _ _ _ (stack-only _ _ _ _ _ (c .before .before .before .before .pre .0)) (c .before .loop .inv))
 
-sub-first-strange-next : tie.Need-sub-first-strange-next Inv-loop μ-loop
-sub-first-strange-next c = omega (arith, reached-room _ _ _ _ _ (stack-only _ _ _ _ _ (c .before .before .before .before .pre .0)) (c .before .loop .inv))
+sub-first-strange-level : tie.Need-sub-first-strange-level Inv-loop μ-loop
+sub-first-strange-level c = omega (arith, reached-room _ _ _ _ _ (stack-only _ _ _ _ _ (c .before .before .before .before .pre .0)) (c .before .loop .inv))
 
-part-first-strange-next-start : tie.Need-part-first-strange-next-start Inv-loop μ-loop
-part-first-strange-next-start c = omega (arith, reached-room _ _ _ _ _ (stack-only _ _ _ _ _ (c .before .before .before .before .pre .0)) (c .before .loop .inv))
+part-first-strange-level-start : tie.Need-part-first-strange-level-start Inv-loop μ-loop
+part-first-strange-level-start c = omega (arith, reached-room _ _ _ _ _ (stack-only _ _ _ _ _ (c .before .before .before .before .pre .0)) (c .before .loop .inv))
 
-part-first-strange-next-end : tie.Need-part-first-strange-next-end Inv-loop μ-loop
-part-first-strange-next-end c = omega (arith, reached-room _ _ _ _ _ (stack-only _ _ _ _ _ (c .before .before .before .before .pre .0)) (c .before .loop .inv))
+part-first-strange-level-end : tie.Need-part-first-strange-level-end Inv-loop μ-loop
+part-first-strange-level-end c = omega (arith, reached-room _ _ _ _ _ (stack-only _ _ _ _ _ (c .before .before .before .before .pre .0)) (c .before .loop .inv))
 
-mul-first-strange-next-2 : tie.Need-mul-first-strange-next-2 Inv-loop μ-loop
-mul-first-strange-next-2 c = omega (arith, reached-small _ _ _ _ _ (stack-only _ _ _ _ _ (c .before .before .before .before .before .pre .0)) (c .before .before .loop .inv))
+mul-first-strange-level-2 : tie.Need-mul-first-strange-level-2 Inv-loop μ-loop
+mul-first-strange-level-2 c = omega (arith, reached-small _ _ _ _ _ (stack-only _ _ _ _ _ (c .before .before .before .before .before .pre .0)) (c .before .before .loop .inv))
 
-mul-first-strange-next-3 : tie.Need-mul-first-strange-next-3 Inv-loop μ-loop
-mul-first-strange-next-3 c = omega (arith, reached-small _ _ _ _ _ (stack-only _ _ _ _ _ (c .before .before .before .before .before .pre .0)) (c .before .before .loop .inv))
+mul-first-strange-level-3 : tie.Need-mul-first-strange-level-3 Inv-loop μ-loop
+mul-first-strange-level-3 c = omega (arith, reached-small _ _ _ _ _ (stack-only _ _ _ _ _ (c .before .before .before .before .before .pre .0)) (c .before .before .loop .inv))
 
-sub-first-strange-next-2 : tie.Need-sub-first-strange-next-2 Inv-loop μ-loop
-sub-first-strange-next-2 c = omega (arith, reached-room _ _ _ _ _ (stack-only _ _ _ _ _ (c .before .before .before .before .before .pre .0)) (c .before .before .loop .inv))
+sub-first-strange-level-2 : tie.Need-sub-first-strange-level-2 Inv-loop μ-loop
+sub-first-strange-level-2 c = omega (arith, reached-room _ _ _ _ _ (stack-only _ _ _ _ _ (c .before .before .before .before .before .pre .0)) (c .before .before .loop .inv))
 
-part-first-strange-next-start-2 : tie.Need-part-first-strange-next-start-2 Inv-loop μ-loop
-part-first-strange-next-start-2 c = omega (arith, reached-room _ _ _ _ _ (stack-only _ _ _ _ _ (c .before .before .before .before .before .pre .0)) (c .before .before .loop .inv))
+part-first-strange-level-start-2 : tie.Need-part-first-strange-level-start-2 Inv-loop μ-loop
+part-first-strange-level-start-2 c = omega (arith, reached-room _ _ _ _ _ (stack-only _ _ _ _ _ (c .before .before .before .before .before .pre .0)) (c .before .before .loop .inv))
 
-part-first-strange-next-end-2 : tie.Need-part-first-strange-next-end-2 Inv-loop μ-loop
-part-first-strange-next-end-2 c = omega (arith, reached-room _ _ _ _ _ (stack-only _ _ _ _ _ (c .before .before .before .before .before .pre .0)) (c .before .before .loop .inv))
+part-first-strange-level-end-2 : tie.Need-part-first-strange-level-end-2 Inv-loop μ-loop
+part-first-strange-level-end-2 c = omega (arith, reached-room _ _ _ _ _ (stack-only _ _ _ _ _ (c .before .before .before .before .before .pre .0)) (c .before .before .loop .inv))
 
-mul-first-strange-next-4 : tie.Need-mul-first-strange-next-4 Inv-loop μ-loop
-mul-first-strange-next-4 c = omega (arith, reached-small _ _ _ _ _ (stack-only _ _ _ _ _ (c .before .before .before .before .before .before .pre .0)) (c .before .before .before .loop .inv))
+mul-first-strange-level-4 : tie.Need-mul-first-strange-level-4 Inv-loop μ-loop
+mul-first-strange-level-4 c = omega (arith, reached-small _ _ _ _ _ (stack-only _ _ _ _ _ (c .before .before .before .before .before .before .pre .0)) (c .before .before .before .loop .inv))
 
-mul-first-strange-next-5 : tie.Need-mul-first-strange-next-5 Inv-loop μ-loop
-mul-first-strange-next-5 c = omega (arith, reached-small _ _ _ _ _ (stack-only _ _ _ _ _ (c .before .before .before .before .before .before .pre .0)) (c .before .before .before .loop .inv))
+mul-first-strange-level-5 : tie.Need-mul-first-strange-level-5 Inv-loop μ-loop
+mul-first-strange-level-5 c = omega (arith, reached-small _ _ _ _ _ (stack-only _ _ _ _ _ (c .before .before .before .before .before .before .pre .0)) (c .before .before .before .loop .inv))
 
-sub-first-strange-next-3 : tie.Need-sub-first-strange-next-3 Inv-loop μ-loop
-sub-first-strange-next-3 c = omega (arith, reached-room _ _ _ _ _ (stack-only _ _ _ _ _ (c .before .before .before .before .before .before .pre .0)) (c .before .before .before .loop .inv))
+sub-first-strange-level-3 : tie.Need-sub-first-strange-level-3 Inv-loop μ-loop
+sub-first-strange-level-3 c = omega (arith, reached-room _ _ _ _ _ (stack-only _ _ _ _ _ (c .before .before .before .before .before .before .pre .0)) (c .before .before .before .loop .inv))
 
-part-first-strange-next-start-3 : tie.Need-part-first-strange-next-start-3 Inv-loop μ-loop
-part-first-strange-next-start-3 c = omega (arith, reached-room _ _ _ _ _ (stack-only _ _ _ _ _ (c .before .before .before .before .before .before .pre .0)) (c .before .before .before .loop .inv))
+part-first-strange-level-start-3 : tie.Need-part-first-strange-level-start-3 Inv-loop μ-loop
+part-first-strange-level-start-3 c = omega (arith, reached-room _ _ _ _ _ (stack-only _ _ _ _ _ (c .before .before .before .before .before .before .pre .0)) (c .before .before .before .loop .inv))
 
-part-first-strange-next-end-3 : tie.Need-part-first-strange-next-end-3 Inv-loop μ-loop
-part-first-strange-next-end-3 c = omega (arith, reached-room _ _ _ _ _ (stack-only _ _ _ _ _ (c .before .before .before .before .before .before .pre .0)) (c .before .before .before .loop .inv))
+part-first-strange-level-end-3 : tie.Need-part-first-strange-level-end-3 Inv-loop μ-loop
+part-first-strange-level-end-3 c = omega (arith, reached-room _ _ _ _ _ (stack-only _ _ _ _ _ (c .before .before .before .before .before .before .pre .0)) (c .before .before .before .loop .inv))
 
-first-strange-next-requires : tie.Need-first-strange-next-requires Inv-loop μ-loop
-first-strange-next-requires c κs = reached-asks _ _ _ _ _ (stack-only _ _ _ _ _ (c .before .before .before .before .before .before .before .pre .0)) (c .before .before .before .before .loop .inv) (c .before .before .before .loop-test .taken)
+add-first-strange-level : tie.Need-add-first-strange-level Inv-loop μ-loop
+add-first-strange-level c = omega (arith, reached-small _ _ _ _ _ (stack-only _ _ _ _ _ (c .before .before .before .before .before .before .before .pre .0)) (c .before .before .before .before .loop .inv))
+
+first-strange-level-requires : tie.Need-first-strange-level-requires Inv-loop μ-loop
+first-strange-level-requires c κs = reached-asks _ _ _ _ _ (stack-only _ _ _ _ _ (c .before .before .before .before .before .before .before .pre .0)) (c .before .before .before .before .loop .inv) (c .before .before .before .loop-test .taken)
 
 add-if1 : tie.Need-add-if1 Inv-loop μ-loop
 add-if1 c = omega (arith, reached-small _ _ _ _ _ (stack-only _ _ _ _ _ (c .before .before .before .before .before .before .before .before .pre .0)) (c .before .before .before .before .before .loop .inv))
@@ -71,7 +74,7 @@ add-result-2 c = omega (arith, reached-small _ _ _ _ _ (stack-only _ _ _ _ _ (c 
 
 returns : tie.Need-returns Inv-loop μ-loop
 returns c =
-    reached-strange _ _ _ _ _ (stack-only _ _ _ _ _ (c .before .before .before .before .before .before .before .before .before .pre .0)) (c .before .before .before .before .before .before .loop .inv) (c .before .before .before .before .before .loop-test .taken) _ (c .before .first-strange-next .ensures) (c .if1 .taken)
+    reached-strange _ _ _ _ _ (stack-only _ _ _ _ _ (c .before .before .before .before .before .before .before .before .before .pre .0)) (c .before .before .before .before .before .before .loop .inv) (c .before .before .before .before .before .loop-test .taken) _ (c .before .first-strange-level .ensures) (c .if1 .taken)
 
 add-base : tie.Need-add-base Inv-loop μ-loop
 add-base c = omega (arith, reached-small _ _ _ _ _ (stack-only _ _ _ _ _ (c .before .before .before .before .before .before .before .before .before .pre .0)) (c .before .before .before .before .before .before .loop .inv))
@@ -90,7 +93,7 @@ loop-less c = omega arith
 
 loop-again : tie.Need-loop-again Inv-loop μ-loop
 loop-again c =
-    reached-more _ _ _ _ _ (stack-only _ _ _ _ _ (c .before .before .before .before .before .before .before .before .before .pre .0)) (c .before .before .before .before .before .before .loop .inv) (c .before .before .before .before .before .loop-test .taken) _ (c .before .first-strange-next .ensures) (c .if1 .left)
+    reached-more _ _ _ _ _ (stack-only _ _ _ _ _ (c .before .before .before .before .before .before .before .before .before .pre .0)) (c .before .before .before .before .before .before .loop .inv) (c .before .before .before .before .before .loop-test .taken) _ (c .before .first-strange-level .ensures) (c .if1 .left)
 
 add-result-3 : tie.Need-add-result-3 Inv-loop μ-loop
 add-result-3 c = omega (arith, reached-small _ _ _ _ _ (stack-only _ _ _ _ _ (c .before .before .before .before .pre .0)) (c .before .loop .inv))
@@ -105,21 +108,22 @@ first-strange-spec =
     Inv-loop
     μ-loop
     loop-holds
-    mul-first-strange-next
-    sub-first-strange-next
-    part-first-strange-next-start
-    part-first-strange-next-end
-    mul-first-strange-next-2
-    mul-first-strange-next-3
-    sub-first-strange-next-2
-    part-first-strange-next-start-2
-    part-first-strange-next-end-2
-    mul-first-strange-next-4
-    mul-first-strange-next-5
-    sub-first-strange-next-3
-    part-first-strange-next-start-3
-    part-first-strange-next-end-3
-    first-strange-next-requires
+    mul-first-strange-level
+    sub-first-strange-level
+    part-first-strange-level-start
+    part-first-strange-level-end
+    mul-first-strange-level-2
+    mul-first-strange-level-3
+    sub-first-strange-level-2
+    part-first-strange-level-start-2
+    part-first-strange-level-end-2
+    mul-first-strange-level-4
+    mul-first-strange-level-5
+    sub-first-strange-level-3
+    part-first-strange-level-start-3
+    part-first-strange-level-end-3
+    add-first-strange-level
+    first-strange-level-requires
     add-if1
     add-result
     add-result-2

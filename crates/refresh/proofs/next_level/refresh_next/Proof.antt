@@ -1,14 +1,11 @@
 -- `refresh_next` meets its contract. Assumes nothing.
-use Prim.Native.Nat.{_≤_, _-_}
-use mathlib.Core.Path.{_≡_, ap, _∙_}
-use mathlib.Core.Logic.{⊎-elim}
+use Prim.Native.Nat.{_-_, _≤_}
+use mathlib.Core.Path.{_≡_, _∙_}
 use native.Mathlib.Omega.{arith}
-use lib.ListN.{length}
-use borrow.Author.Needs.{needs}
 use Rattle.rings.specs.Table.{rows}
-use Rattle.map.specs.Map.{marked}
-use Rattle.refresh.proofs.Touched.{in-map-long}
-use Rattle.refresh.proofs.Renewed.{Refreshed, refreshed-none, refreshed-more, refreshed-long, levels-kept, old-marked}
+use Rattle.refresh.proofs.Touched.{in-map, in-map-long}
+use Rattle.refresh.proofs.Renewed.{Refreshed, refreshed-none, refreshed-more, refreshed-skip, refreshed-long, levels-kept, old-marked}
+use Rattle.refresh.proofs.Judging.{judged-quiet, judged-marks, judged-points}
 use Rattle.refresh.proofs.next_level.refresh_next.Statement.{statement}
 use Rattle.refresh.proofs.next_level.refresh_next.Tie as tie
 
@@ -18,63 +15,78 @@ Inv-loop map₀ positions₀ valences rings base count above x₀ map positions 
 abbrev μ-loop : tie.MeasureT-loop
 μ-loop map₀ positions₀ valences rings base count above x₀ map positions x = above - x
 
+mark-old-requires : tie.Need-mark-old-requires Inv-loop μ-loop
+mark-old-requires c κs = let h = c .before .before .before .before .pre in (in-map _ (h .1 .0) (omega arith), (h .1 .1 .0 .ready, h .1 .1 .1 .1))
+
 loop-holds : tie.Need-loop-holds Inv-loop μ-loop
-loop-holds c = (search needs, refreshed-none)
+loop-holds c = (omega arith, refreshed-none)
 
-refresh-old-requires : tie.Need-refresh-old-requires Inv-loop μ-loop
-refresh-old-requires c κs =
-    let a = c .before .before .before .before in
-    let h = a .before .before .before .before .pre in
-    let d = a .loop .inv .1 in
-    let e = h .0 in
-    (in-map-long (h .1 .0) (d .long), (levels-kept (h .1 .1 .0) d (omega arith), c .before .before .if1 .taken))
-
-refresh-new-requires : tie.Need-refresh-new-requires Inv-loop μ-loop
-refresh-new-requires c κs =
-    let a = c .before .before .before .before in
-    let h = a .before .before .before .before .pre in
-    let d = a .loop .inv .1 in
-    let e = h .0 in
-    let n = c .before .before .if1 .left in
-    (in-map-long (h .1 .0) (d .long), (levels-kept (h .1 .1 .0) d (omega arith), (h .1 .1 .1 .0, (omega arith, (omega arith, old-marked (h .1 .1 .0) d (omega arith) (omega arith))))))
-
-add-x : tie.Need-add-x Inv-loop μ-loop
-add-x c = search needs
-
-loop-less : tie.Need-loop-less Inv-loop μ-loop
-loop-less c = search needs
-
-loop-again : tie.Need-loop-again Inv-loop μ-loop
-loop-again c =
-    let a = c .before .before in
-    let h = a .before .before .before .before .pre in
+untouched-ahead-requires : tie.Need-untouched-ahead-requires Inv-loop μ-loop
+untouched-ahead-requires c κs =
+    let h = c .before .before .before .before .before .before .before .before .before .before .pre in
+    let d = c .before .before .loop .inv .1 in
+    let j = c .before .before .before .before .before .mark-old in
     let e = h .0 in
     let l = c .before .loop-test .taken in
-    let more = refreshed-more (h .1 .1 .0) (a .loop .inv .1) (omega arith) (omega arith) (h .1 .1 .1 .1) in (
-      omega arith,
-      ⊎-elim
-          (λ w. more (ap length (w .7) ∙ w .3 .kept .0) (ap marked (w .7) ∙ w .3 .ensures .0) (w .8 ∙ w .3 .ensures .1))
-          (λ w. more (ap length (w .7) ∙ w .3 .kept .0) (ap marked (w .7) ∙ w .3 .ensures .0) (w .8 ∙ w .3 .ensures .1))
-          (c .if1 .came),
-    )
+    (in-map-long (h .1 .0) (d .long ∙ j .kept .0), (h .1 .1 .0 .ready, (h .1 .1 .1 .0, (e, (l, old-marked (h .1 .1 .0) d (omega arith) (j .ensures .old))))))
+
+refresh-vertex-requires : tie.Need-refresh-vertex-requires Inv-loop μ-loop
+refresh-vertex-requires c κs =
+    let h = c .before .before .before .before .before .before .before .before .before .before .before .before .before .before .pre in
+    let d = c .before .before .before .before .before .before .loop .inv .1 in
+    let j = c .before .before .before .before .before .before .before .before .before .mark-old in
+    let e = h .0 in
+    let l = c .before .before .before .before .before .loop-test .taken in
+    (in-map-long (h .1 .0) (d .long ∙ j .kept .0), (levels-kept (h .1 .1 .0) d (omega arith), (h .1 .1 .1 .0, (omega arith, old-marked (h .1 .1 .0) d (omega arith) (j .ensures .old)))))
+
+add-x : tie.Need-add-x Inv-loop μ-loop
+add-x c = omega arith
+
+loop-less : tie.Need-loop-less Inv-loop μ-loop
+loop-less c = omega arith
+
+loop-again : tie.Need-loop-again Inv-loop μ-loop
+unfolding rows
+loop-again c =
+    let h = c .before .before .before .before .before .before .before .before .before .before .before .before .before .before .before .before .before .before .pre in
+    let d = c .before .before .before .before .before .before .before .before .before .before .loop .inv .1 in
+    let j = c .before .before .before .before .before .before .before .before .before .before .before .before .before .mark-old in
+    let e = h .0 in
+    let l = c .before .before .before .before .before .before .before .before .before .loop-test .taken in
+    let v = c .before .before .before .refresh-vertex in
+    (omega arith, refreshed-more (h .1 .1 .0) d (omega arith) (omega arith) (judged-quiet (h .1 .1 .0 .ready) (j .ensures) (h .1 .1 .1 .1) .quiet _ (omega arith)) (v .kept .0) (v .ensures .0) (v .ensures .1))
+
+add-x-2 : tie.Need-add-x-2 Inv-loop μ-loop
+add-x-2 c = let k = c .before .untouched-ahead .ensures .0 in omega arith
+
+loop-less-2 : tie.Need-loop-less-2 Inv-loop μ-loop
+loop-less-2 c = let k = c .before .untouched-ahead .ensures .0 in let n = c .if1 .left in omega arith
+
+loop-again-2 : tie.Need-loop-again-2 Inv-loop μ-loop
+loop-again-2 c =
+    let h = c .before .before .before .before .before .before .before .before .before .before .before .before .pre in
+    let d = c .before .before .before .before .loop .inv .1 in
+    let j = c .before .before .before .before .before .before .before .mark-old in
+    let e = h .0 in
+    let l = c .before .before .before .loop-test .taken in
+    let k = c .before .untouched-ahead .ensures .0 in
+    (omega arith, refreshed-skip (h .1 .1 .0) _ (judged-quiet (h .1 .1 .0 .ready) (j .ensures) (h .1 .1 .1 .1)) _ _ _ d (omega arith) (c .before .untouched-ahead .ensures .1))
 
 same-length : tie.Need-same-length Inv-loop μ-loop
-same-length c = c .before .loop .inv .1 .long
+same-length c = c .before .loop .inv .1 .long ∙ c .before .before .before .before .mark-old .kept .0
 
 same-length-2 : tie.Need-same-length-2 Inv-loop μ-loop
-same-length-2 c =
-    let h = c .before .before .before .before .before .pre in
-    let e = h .0 in
-    let i = c .before .loop .inv .0 in
-    refreshed-long (h .1 .1 .0) (c .before .loop .inv .1) (omega arith)
+same-length-2 c = let h = c .before .before .before .before .before .before .before .before .before .pre in let e = h .0 in let i = c .before .loop .inv .0 in refreshed-long (h .1 .1 .0) (c .before .loop .inv .1) (omega arith)
 
 returns : tie.Need-returns Inv-loop μ-loop
 returns c =
-    let h = c .before .before .before .before .before .pre in
+    let h = c .before .before .before .before .before .before .before .before .before .pre in
+    let d = c .before .loop .inv .1 in
+    let j = c .before .before .before .before .mark-old in
     let e = h .0 in
-    let k : c .before .loop .x ≡ c .before .before .before .before .before .args .above = omega arith in
-    let d = rw (k ∙ e) at (c .before .loop .inv .1) in
-    (d .marks, d .points)
+    let k : c .before .loop .x ≡ c .before .before .before .before .before .before .before .before .before .args .above = omega arith in
+    let f = rw (k ∙ e) at d in
+    (f .marks ∙ judged-marks (h .1 .1 .0 .ready) (j .ensures), f .points ∙ judged-points (h .1 .1 .0 .ready) (j .ensures) _)
 
 pub refresh-next-spec : {M : Type 1} → statement M
 refresh-next-spec =
@@ -82,12 +94,16 @@ refresh-next-spec =
     (tie.spec
     Inv-loop
     μ-loop
+    mark-old-requires
     loop-holds
-    refresh-old-requires
-    refresh-new-requires
+    untouched-ahead-requires
+    refresh-vertex-requires
     add-x
     loop-less
     loop-again
+    add-x-2
+    loop-less-2
+    loop-again-2
     same-length
     same-length-2
     returns)
