@@ -7,9 +7,9 @@ ghost use Rattle.rings.specs.declared.Counted.the-variants.{Counts};
 ghost use Rattle.refine.specs.Accepts.{AcceptsStack};
 ghost use Rattle.refine.specs.Refinement.{stackedValences, stackedRings, stackedPositions};
 use super::stack::edge_count;
-use next_level::write::write_level;
 use rings::Counted;
 use rings::MOST_VALENCE;
+use sweep::write::write_level;
 
 // Writes levels 1 to L right behind level 0; answers V, E and F of level L.
 pub fn write_levels(

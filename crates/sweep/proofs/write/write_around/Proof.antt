@@ -1,0 +1,72 @@
+-- `write_around` meets its contract. Assumes nothing.
+use mathlib.Core.Path.{_≡_, refl, sym}
+use lib.ListN.{getD}
+use borrow.Author.Needs.{needs}
+use native.Mathlib.Omega.{arith}
+use Rattle.sweep.proofs.Steps.{halves-at, points-at}
+use Rattle.sweep.proofs.write.write_around.Statement.{statement}
+use Rattle.sweep.proofs.write.write_around.Tie as tie
+
+mul-n : tie.Need-mul-n
+mul-n c = search needs
+
+shared-slice-read-n : tie.Need-shared-slice-read-n
+shared-slice-read-n c = search needs
+
+cast-n : tie.Need-cast-n
+cast-n c = omega (arith, c .shared-slice-known2 .given (c .before .before .before .args .p))
+
+write-points-requires : tie.Need-write-points-requires
+write-points-requires c κs =
+    let s = c .before .before .before .before .before .before in (s .pre .0, (s .pre .1 .0, (s .pre .1 .1, sym (c .before .before .if1 .taken))))
+
+write-halves-requires : tie.Need-write-halves-requires
+write-halves-requires c κs =
+    let s = c .before .before .before .before .before .before .before .before .before in (s .pre .0 .ready, (s .pre .1 .0, (s .pre .1 .1, sym (c .before .before .before .before .before .if1 .taken))))
+
+same-length : tie.Need-same-length
+same-length c = search needs
+
+same-length-2 : tie.Need-same-length-2
+same-length-2 c = search needs
+
+returns : tie.Need-returns
+returns c =
+    let s = c .before .before .before .before .before .before .before .before .before .before .before .before .args in
+    let e : 6 ≡ getD (s .valences .now) (s .p) 0 = sym (c .before .before .before .before .before .before .before .before .if1 .taken) in
+    (halves-at (s .p) e (c .before .before .write-halves .ensures), points-at (s .p) e (c .before .before .before .before .before .write-points .ensures))
+
+write-points-requires-2 : tie.Need-write-points-requires-2
+write-points-requires-2 c κs =
+    let s = c .before .before .before .before .before .before in (s .pre .0, (s .pre .1 .0, (s .pre .1 .1, refl)))
+
+write-halves-requires-2 : tie.Need-write-halves-requires-2
+write-halves-requires-2 c κs =
+    let s = c .before .before .before .before .before .before .before .before .before in (s .pre .0 .ready, (s .pre .1 .0, (s .pre .1 .1, refl)))
+
+same-length-3 : tie.Need-same-length-3
+same-length-3 c = search needs
+
+same-length-4 : tie.Need-same-length-4
+same-length-4 c = search needs
+
+returns-2 : tie.Need-returns-2
+returns-2 c = (c .before .before .write-halves2 .ensures, c .before .before .before .before .before .write-points2 .ensures)
+
+pub write-around-spec : {M : Type 1} → statement M
+write-around-spec =
+    tie.close
+    (tie.spec
+    mul-n
+    shared-slice-read-n
+    cast-n
+    write-points-requires
+    write-halves-requires
+    same-length
+    same-length-2
+    returns
+    write-points-requires-2
+    write-halves-requires-2
+    same-length-3
+    same-length-4
+    returns-2)
