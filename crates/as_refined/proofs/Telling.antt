@@ -1,5 +1,5 @@
 -- What a quick pass tells, loop by loop: nothing where it says no; and where misses are counted and there are none, all. Assumes nothing.
-use Prim.Native.Nat.{ℕ, _+_, _-_, _≤_, _<_}
+use Prim.Native.Nat.{ℕ, zero, suc, _+_, _-_, _≤_, _<_}
 use mathlib.Core.Path.{_≡_, refl, ap, _∙_}
 use mathlib.Core.Bool.{false}
 use mathlib.Core.List.{List}
@@ -74,6 +74,26 @@ module _ {row next above : List ℕ} {n end p : ℕ} where
 
     pub walked-all : 0 < length row → i ≡ length row - 1 → EdgeVertex above n end p (getD row (length row - 1) 0) x before (getD next 0 0) → RowAgrees row next above n end p
     walked-all l e h = record { place = λ j m. walked-place (getD next 0 0) 0 (after-last (length row) i (omega arith)) refl (rw (← e) at h) j (omega arith) }
+
+-- a row of six, place by place
+pub six-agree : {row next above : List ℕ} {n end p : ℕ} → length row ≡ 6
+    → EdgeVertex above n end p (getD row 0 0) (getD next 0 0) (getD next 5 0) (getD next 1 0)
+    → EdgeVertex above n end p (getD row 1 0) (getD next 1 0) (getD next 0 0) (getD next 2 0)
+    → EdgeVertex above n end p (getD row 2 0) (getD next 2 0) (getD next 1 0) (getD next 3 0)
+    → EdgeVertex above n end p (getD row 3 0) (getD next 3 0) (getD next 2 0) (getD next 4 0)
+    → EdgeVertex above n end p (getD row 4 0) (getD next 4 0) (getD next 3 0) (getD next 5 0)
+    → EdgeVertex above n end p (getD row 5 0) (getD next 5 0) (getD next 4 0) (getD next 0 0) → RowAgrees row next above n end p
+unfolding placeBefore placeAfter
+six-agree {row} {next} {above} {n} {end} {p} e a b c d f g = record { place = λ i l. rw e (go i (rw e at l)) }
+  where
+    go : (i : ℕ) → i < 6 → EdgeVertex above n end p (getD row i 0) (getD next i 0) (getD next (placeBefore 6 i) 0) (getD next (placeAfter 6 i) 0)
+    go zero l = a
+    go (suc zero) l = b
+    go (suc (suc zero)) l = c
+    go (suc (suc (suc zero))) l = d
+    go (suc (suc (suc (suc zero)))) l = f
+    go (suc (suc (suc (suc (suc zero))))) l = g
+    go (suc (suc (suc (suc (suc (suc i)))))) l = absurd (omega arith)
 
 -- ---- the six places of a ring that are lent as a part
 

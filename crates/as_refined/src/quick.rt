@@ -92,6 +92,60 @@ fn row_agrees(row: &[u16], next: &[u16], above: &[u16], count: usize, end: usize
     is_edge_vertex(above, count, end, p, row[last], x, before, next[0])
 }
 
+// The same for a row of six, which nearly all are.
+fn row_of_six_agrees(
+    row: &[u16],
+    next: &[u16],
+    above: &[u16],
+    count: usize,
+    end: usize,
+    p: u16,
+) -> bool
+    requires { ⌜ end ≤ 65535 ⌝ }
+    requires { ⌜ end * 32 ≤ length (now above) ⌝ }
+    requires { ⌜ length (now row) ≡ 6 ⌝ }
+    requires { ⌜ length (now next) ≡ 6 ⌝ }
+    ensures { λ r. ⌜ Tells r (RowAgrees (now (row .entry)) (now (next .entry)) (now (above .entry)) count end p) ⌝ }
+{
+    if !is_edge_vertex(above, count, end, p, row[0], next[0], next[5], next[1]) {
+        return false;
+    }
+    if !is_edge_vertex(above, count, end, p, row[1], next[1], next[0], next[2]) {
+        return false;
+    }
+    if !is_edge_vertex(above, count, end, p, row[2], next[2], next[1], next[3]) {
+        return false;
+    }
+    if !is_edge_vertex(above, count, end, p, row[3], next[3], next[2], next[4]) {
+        return false;
+    }
+    if !is_edge_vertex(above, count, end, p, row[4], next[4], next[3], next[5]) {
+        return false;
+    }
+    is_edge_vertex(above, count, end, p, row[5], next[5], next[4], next[0])
+}
+
+// The same for a row of any length.
+fn any_row_agrees(
+    row: &[u16],
+    next: &[u16],
+    above: &[u16],
+    count: usize,
+    end: usize,
+    p: u16,
+) -> bool
+    requires { ⌜ end ≤ 65535 ⌝ }
+    requires { ⌜ end * 32 ≤ length (now above) ⌝ }
+    requires { ⌜ 0 < length (now row) ⌝ }
+    requires { ⌜ length (now next) ≡ length (now row) ⌝ }
+    ensures { λ r. ⌜ Tells r (RowAgrees (now (row .entry)) (now (next .entry)) (now (above .entry)) count end p) ⌝ }
+{
+    if row.len() == 6 {
+        return row_of_six_agrees(row, next, above, count, end, p);
+    }
+    row_agrees(row, next, above, count, end, p)
+}
+
 // Does the row of every old vertex?
 fn rows_agree(valences: &[u16], rings: &[u16], count: usize, end: usize) -> bool
     requires { ⌜ Ready count (now valences) (now rings) ⌝ }
@@ -103,7 +157,7 @@ fn rows_agree(valences: &[u16], rings: &[u16], count: usize, end: usize) -> bool
     while p < count {
         let row = ring_of(valences, rings, p);
         let next = ring_of(valences, above, p);
-        if !row_agrees(row, next, above, count, end, p as u16) {
+        if !any_row_agrees(row, next, above, count, end, p as u16) {
             return false;
         }
         p += 1;
