@@ -38,14 +38,29 @@ pub record Climbing (rings : List ℕ) (least k : ℕ) : Type 0 where
   pub ascends : Ascends rings k
   pub less : (x : ℕ) → x < k → edgeKey rings x < least
 
-pub climbing-none : {rings : List ℕ} → Climbing rings 0 0
+climbing-none : {rings : List ℕ} → Climbing rings 0 0
 climbing-none = record { ascends = record { later = λ x y l h. absurd (omega arith) }; less = λ x l. absurd (omega arith) }
 
-pub climbing-more : {rings : List ℕ} {least k : ℕ} → Climbing rings least k → least ≤ edgeKey rings k → Climbing rings (edgeKey rings k + 1) (k + 1)
+climbing-more : {rings : List ℕ} {least k : ℕ} → Climbing rings least k → least ≤ edgeKey rings k → Climbing rings (edgeKey rings k + 1) (k + 1)
 climbing-more {rings} {least} {k} t h = record {
   ascends = record { later = λ x y l g. ⊎-elim (λ s. t .ascends .later x y l (s .1)) (λ s. let m = s .1 in let e : y ≡ k = omega arith in rw e (let w = t .less x (omega arith) in omega arith)) (lt-split y k) };
   less = λ x l. ⊎-elim (λ s. let w = t .less x (s .1) in omega arith) (λ s. let m = s .1 in let e : x ≡ k = omega arith in rw e (omega arith)) (lt-split x k);
 }
+
+-- the same where no fall was counted
+pub record Rising (rings : List ℕ) (falls least k : ℕ) : Type 0 where
+  pub few : falls ≤ k
+  pub climbing : falls ≡ 0 → Climbing rings least k
+
+pub rising-none : {rings : List ℕ} → Rising rings 0 0 0
+rising-none = record { few = omega arith; climbing = λ e. climbing-none }
+
+module _ {rings : List ℕ} {falls least k : ℕ} (t : Rising rings falls least k) {more : ℕ} where
+  pub rising-fall : more ≡ falls + 1 → Rising rings more (edgeKey rings k + 1) (k + 1)
+  rising-fall e = record { few = let f = t .few in omega arith; climbing = λ z. absurd (omega arith) }
+
+  pub rising-more : more ≡ falls → least ≤ edgeKey rings k → Rising rings more (edgeKey rings k + 1) (k + 1)
+  rising-more e h = record { few = let f = t .few in omega arith; climbing = λ z. climbing-more (t .climbing (omega arith)) h }
 
 -- ---- a row is walked up to place i, whose new vertex is x, with `before` before it
 

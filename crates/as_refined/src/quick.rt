@@ -171,18 +171,19 @@ fn ascends(rings: &[u16], k: usize) -> bool
     requires { ⌜ k * 32 ≤ length (now rings) ⌝ }
     ensures { λ r. ⌜ Tells r (Ascends (now (rings .entry)) k) ⌝ }
 {
+    let mut falls: usize = 0;
     let mut least: usize = 0;
     let mut x = 0;
     while x < k {
         let a = x * MOST_VALENCE;
         let key = (rings[a] as usize) * 65536 + (rings[a + 3] as usize);
         if key < least {
-            return false;
+            falls += 1;
         }
         least = key + 1;
         x += 1;
     }
-    true
+    falls == 0
 }
 
 // Have the old vertices of the next level the valences they had?
