@@ -91,6 +91,9 @@ module _ {row next above : List ℕ} {n end p : ℕ} where
     walked-all l e h = record { place = λ j m. walked-place (getD next 0 0) 0 (after-last (length row) i (omega arith)) refl (rw (← e) at h) j (omega arith) }
 
 -- a row of six, place by place
+pub six-place : (l : List ℕ) → length l ≡ 6 → (i : ℕ) → i < 6 → i < length l
+six-place l e i h = rw e h
+
 pub six-agree : {row next above : List ℕ} {n end p : ℕ} → length row ≡ 6
     → EdgeVertex above n end p (getD row 0 0) (getD next 0 0) (getD next 5 0) (getD next 1 0)
     → EdgeVertex above n end p (getD row 1 0) (getD next 1 0) (getD next 0 0) (getD next 2 0)
