@@ -26,11 +26,11 @@ use Rattle.rings.proofs.Rows.{rows-ring, row-length}
 use Rattle.level.specs.Level.{Ready, HasOld}
 use Rattle.level.proofs.Mids.{ready-length, ready-entry, ring-once, old-after, old-before, new-places}
 use Rattle.refine.proofs.LevelRows.{part-is}
-use Rattle.as_refined.specs.Expected.{strangeNext}
+use Rattle.strange.specs.Expected.{strangeNext}
 use Rattle.as_refined.specs.Agreement.{NamesUpward, NamesDownward, EdgeVertex, RowsAgree, edgeKey, Ascends, SameValences, SixValences, NearFrom}
-use Rattle.as_refined.proofs.Strange.{not-other}
-use Rattle.as_refined.proofs.NextRows.{next-row, want-length, want-entry, new-is, new-length}
-use Rattle.as_refined.proofs.NextNumbers.{clear-all}
+use Rattle.strange.proofs.Strange.{not-other}
+use Rattle.strange.proofs.NextRows.{next-row, want-length, want-entry, new-is, new-length}
+use Rattle.strange.proofs.NextNumbers.{clear-all}
 
 -- a climb through as many numbers as there are is each number itself
 module _ (g : ℕ → ℕ) (e : ℕ) (small : (k : ℕ) → k < e → g k < e) (climbs : (k : ℕ) → k + 1 < e → g k < g (k + 1)) where

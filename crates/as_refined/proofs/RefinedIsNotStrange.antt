@@ -19,11 +19,11 @@ use Rattle.refine.proofs.AcceptedStack.{stack-only}
 use Rattle.refine.proofs.Sizes.{level-count, start-none}
 use Rattle.refine.proofs.StackIsRefined.{valence-is-refined, ring-is-refined, level-is-refined}
 use Rattle.refine.proofs.StackStaysInHull.{stack-stays-in-range}
-use Rattle.as_refined.specs.Expected.{whole, strange}
-use Rattle.as_refined.proofs.Strange.{not-other}
+use Rattle.strange.specs.Expected.{whole, strange}
+use Rattle.strange.proofs.Strange.{not-other}
 use Rattle.as_refined.proofs.StackRows.{strange-is, clear-stack}
 use Rattle.as_refined.proofs.StackAsRefined.{of-near}
-use Rattle.as_refined.proofs.NextNumbers.{clear-all}
+use Rattle.strange.proofs.NextNumbers.{clear-all}
 
 module _ (n levels : ℕ) (vs rs : List ℕ) (ps : List ℤ) (accepted : Accepted ≡ stackVerdict n levels vs rs ps) where
   abbrev M : Mesh

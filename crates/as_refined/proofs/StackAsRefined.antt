@@ -27,10 +27,10 @@ use Rattle.refine.specs.Accepts.{AcceptsStack}
 use Rattle.refine.proofs.Sizes.{level-count, level-edges, start-none, start-suc}
 use Rattle.refine.proofs.StackLevels.{ring-part, point-part}
 use Rattle.refine.proofs.StackVertices.{starts-climb, vertex-in}
-use Rattle.as_refined.specs.Expected.{whole, strange}
-use Rattle.as_refined.proofs.Strange.{as-wanted, not-other}
+use Rattle.strange.specs.Expected.{whole, strange}
+use Rattle.strange.proofs.Strange.{as-wanted, not-other}
 use Rattle.as_refined.proofs.StackRows.{strange-is, clear-stack}
-use Rattle.as_refined.proofs.NextNumbers.{clear-to, clear-all}
+use Rattle.strange.proofs.NextNumbers.{clear-to, clear-all}
 
 -- level k: how many vertices it has, where it begins, and the parts of the tables that begin there
 module _ (n : ℕ) (vs rs : List ℕ) (k : ℕ) where

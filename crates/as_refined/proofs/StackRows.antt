@@ -17,7 +17,7 @@ use Rattle.refine.specs.Stack.{levelCount, levelStart, stackCount, levelOf, num
 use Rattle.refine.proofs.Sizes.{start-none, start-suc}
 use Rattle.refine.proofs.StackLevels.{ring-part, point-part}
 use Rattle.refine.proofs.StackVertices.{starts-climb, stack-vertex, level-of, number-in}
-use Rattle.as_refined.specs.Expected.{otherThan, wanted, strange}
+use Rattle.strange.specs.Expected.{otherThan, wanted, strange}
 
 beyond-part : (ps : List ℤ) (b x : ℕ) → beyondAt (drop (b * 3) ps) x ≡ beyondAt ps (b + x)
 unfolding beyondAt

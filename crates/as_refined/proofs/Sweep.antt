@@ -21,10 +21,10 @@ use Rattle.refine.specs.Accepts.{AcceptsStack}
 use Rattle.refine.proofs.LevelRows.{part-is}
 use Rattle.refine.proofs.Sizes.{Sized, sized-more, sized-small, start-none, start-suc, start-small}
 use Rattle.refine.proofs.StackVertices.{starts-climb, vertex-in}
-use Rattle.as_refined.specs.Expected.{otherThan, strangeNext, whole, strange}
+use Rattle.strange.specs.Expected.{otherThan, strangeNext, whole, strange}
 use Rattle.as_refined.proofs.StackRows.{other-part, control-clear, strange-is}
 use Rattle.as_refined.proofs.StackAsRefined.{size, begin, valencesFrom, ringsFrom, positionsFrom, AsRefined, level-as-refined, part-edges, part-ready, part-points}
-use Rattle.as_refined.proofs.NextNumbers.{clear-first}
+use Rattle.strange.proofs.NextNumbers.{clear-first}
 
 module _ (n levels : ℕ) (vs rs : List ℕ) (ps : List ℤ) (a : AcceptsStack n levels vs rs ps) where
   abbrev M : Mesh

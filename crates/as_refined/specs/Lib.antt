@@ -1,3 +1,2 @@
--- Reason 11, and what its quick pass tells.
-pub mod Expected
+-- What the quick pass of reason 11 tells.
 pub mod Agreement

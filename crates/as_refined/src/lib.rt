@@ -1,5 +1,4 @@
-// Reason 11: levels 1 to L of a stack held against what refinement gives, the lowest stack vertex
-// first.
-pub mod next_level;
+// Reason 11: levels 1 to L of a stack held against what refinement gives: a quick pass over each
+// level, and the search for the lowest strange vertex where it says no.
 pub mod quick;
 pub mod stack;

@@ -7,11 +7,11 @@ ghost use Rattle.mesh.specs.Search.{first};
 ghost use Rattle.rings.specs.Table.{rows};
 ghost use Rattle.level.specs.Level.{Ready};
 ghost use Rattle.as_refined.specs.Agreement.{Tells, NamesEdge, EdgeVertex, RowAgrees, RowsAgree, Ascends, SameValences, SixValences, NearFrom};
-ghost use Rattle.as_refined.specs.Expected.{strangeNext};
-use super::next_level::first_strange_next;
+ghost use Rattle.strange.specs.Expected.{strangeNext};
 use mesh_check::positions::is_beyond;
 use rings::MOST_VALENCE;
 use rings::table::ring_of;
+use strange::next_level::first_strange_next;
 
 // Does the ring of a new vertex name the edge p, q, with the new vertices that stand before and after it around p?
 fn names_edge(ring: &[u16], p: u16, q: u16, before: u16, after: u16) -> bool

@@ -5,7 +5,7 @@ ghost use Rattle.mesh.specs.Search.{first};
 ghost use Rattle.rings.specs.Table.{rows};
 ghost use Rattle.refine.specs.Refinement.{stackVerdict};
 ghost use Rattle.rings.specs.declared.Verdict.the-variants.{Accepted};
-ghost use Rattle.as_refined.specs.Expected.{whole, strange};
+ghost use Rattle.strange.specs.Expected.{whole, strange};
 use super::quick::first_strange_level;
 use rings::MOST_VALENCE;
 

@@ -23,7 +23,7 @@ use Rattle.refine.specs.Stack.{levelStart, stackCount, levelOf, numberIn, badLe
 use Rattle.refine.specs.Refinement.{stackedValences, stackedRings, stackedPositions, stackVerdict, refineAnswer, refineValences, refineRings, refinePositions}
 use Rattle.plan.specs.Moves.{placed, step}
 use Rattle.map.specs.Map.{wordCount, word, mapWords}
-use Rattle.as_refined.specs.Expected.{whole, otherThan, wanted, strange}
+use Rattle.strange.specs.Expected.{whole, otherThan, wanted, strange}
 use Rattle.moves.specs.Apply.{beforeMoves, moved, applyVerdict, touchedAt, touchedTotal, touchedMap, applyAnswer, applyMap}
 use Rattle.meshfile.specs.Layout.{fileCount, rowAt, fileValence, fileRing, filePoint, isFirst, isRow, isLast, fileVerdict}
 use Rattle.listing_text.specs.Lines as lines

@@ -22,7 +22,7 @@ use Rattle.rings.specs.declared.Refusal.{Refusal}
 use Rattle.rings.specs.declared.Verdict.the-variants.{Accepted, Refused}
 use Rattle.rings.proofs.Verdicts.{if-accepted, then-accepted}
 use Rattle.map.specs.Map.{wordCount}
-use Rattle.as_refined.specs.Expected.{whole}
+use Rattle.strange.specs.Expected.{whole}
 use Rattle.refine.specs.Stack.{levelStart}
 use Rattle.refine.specs.Accepts.{AcceptsStack}
 use Rattle.refine.specs.Refinement.{stackVerdict}

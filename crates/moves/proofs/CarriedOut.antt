@@ -26,7 +26,7 @@ use Rattle.refine.specs.Stack.{levelCount, levelStart, stackCount}
 use Rattle.refine.specs.Accepts.{AcceptsStack}
 use Rattle.refine.proofs.Sizes.{level-count}
 use Rattle.refine.proofs.StackLevels.{point-part}
-use Rattle.as_refined.specs.Expected.{whole}
+use Rattle.strange.specs.Expected.{whole}
 use Rattle.as_refined.proofs.StackAsRefined.{AsRefined, stack-as-refined}
 use Rattle.refresh.specs.Stack.{StackReady, MapReady, TouchedMarked, refreshedPositions}
 use Rattle.refresh.proofs.Called.{accepted-moved, positions-by, mark-by}

@@ -24,7 +24,7 @@ use Rattle.refine.specs.Accepts.{AcceptsStack}
 use Rattle.refine.specs.Refinement.{stackVerdict}
 use Rattle.refine.proofs.AcceptedStack.{stack-only}
 use Rattle.refine.proofs.Judged.{counted-edges}
-use Rattle.as_refined.specs.Expected.{whole, strange}
+use Rattle.strange.specs.Expected.{whole, strange}
 use Rattle.moves.specs.Apply.{beforeMoves}
 
 sum-most : (f : ℕ → ℕ) (m n : ℕ) → ((i : ℕ) → i < n → f i ≤ m) → sum f n ≤ n * m

@@ -24,7 +24,7 @@ use Rattle.map.proofs.Sets.{ones-members, words-after, marked-first}
 use Rattle.refine.specs.Stack.{levelStart, stackCount}
 use Rattle.refine.proofs.Sizes.{level-count}
 use Rattle.refine.proofs.StackVertices.{vertex-in, level-of, number-in}
-use Rattle.as_refined.specs.Expected.{whole}
+use Rattle.strange.specs.Expected.{whole}
 use Rattle.refresh.specs.Stack.{TouchedMarked}
 use Rattle.refresh.proofs.TouchedMarks.{marks-counted}
 use Rattle.plan.specs.Moves.{named}

@@ -19,7 +19,7 @@ use Rattle.rings.specs.declared.Amount.{Amount}
 use Rattle.map.specs.Map.{wordCount, mapWords}
 use Rattle.refine.specs.Stack.{levelOf, numberIn}
 use Rattle.refine.specs.Refinement.{stackVerdict}
-use Rattle.as_refined.specs.Expected.{whole, strange}
+use Rattle.strange.specs.Expected.{whole, strange}
 use Rattle.refresh.specs.Stack.{refreshedPositions}
 use Rattle.plan.specs.Moves.{Pending, pending, run, named, pendingVerdict, pendingPoints}
 use Rattle.plan.specs.declared.Move.{Move}

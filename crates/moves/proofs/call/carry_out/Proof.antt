@@ -1,6 +1,6 @@
 -- `carry_out` meets its contract. Assumes nothing.
 use mathlib.Core.Path.{_≡_, _∙_}
-use Rattle.as_refined.specs.Expected.{whole}
+use Rattle.strange.specs.Expected.{whole}
 use Rattle.plan.specs.Plan.{planned}
 use Rattle.moves.proofs.Judging.{Judged, judged, edges-asked, edges-are, whole-is, whole-small}
 use Rattle.moves.proofs.CarriedOut.{fair-low, fair-near, stack-ready, control-in-map, map-ready, counted, positions-after, map-marked}

@@ -4,7 +4,7 @@ use Rattle.rings.specs.declared.Verdict.the-variants.{Accepted}
 use Rattle.refine.specs.Accepts.{AcceptsStack}
 use Rattle.refine.specs.Refinement.{stackVerdict}
 use Rattle.refine.proofs.AcceptedStack.{stack-only}
-use Rattle.as_refined.specs.Expected.{whole}
+use Rattle.strange.specs.Expected.{whole}
 use Rattle.moves.proofs.Judging.{edges-asked, edges-are, whole-is, whole-small, before-stack, before-words, before-strange, before-many, before-accepted}
 use borrow.Author.Needs.{needs}
 use native.Mathlib.Omega.{arith}

@@ -5,10 +5,10 @@ use native.Mathlib.Omega.{arith}
 use Rattle.mesh.proofs.First.{Clear, first-is, first-end}
 use Rattle.rings.specs.Table.{ringOf}
 use Rattle.level.proofs.Mids.{ready-row}
-use Rattle.as_refined.specs.Expected.{strangeNext}
-use Rattle.as_refined.proofs.NextNumbers.{clear-first, clear-next, start-row, start-most, Passed, passed-none, passed-left, passed-place, passed-over, passed-mid, passed-more}
-use Rattle.as_refined.proofs.next_level.first_strange_edge.Statement.{statement}
-use Rattle.as_refined.proofs.next_level.first_strange_edge.Tie as tie
+use Rattle.strange.specs.Expected.{strangeNext}
+use Rattle.strange.proofs.NextNumbers.{clear-first, clear-next, start-row, start-most, Passed, passed-none, passed-left, passed-place, passed-over, passed-mid, passed-more}
+use Rattle.strange.proofs.next_level.first_strange_edge.Statement.{statement}
+use Rattle.strange.proofs.next_level.first_strange_edge.Tie as tie
 
 abbrev Inv-loop : tie.InvT-loop
 Inv-loop valences rings positions count p start end last₀ x₀ last x =

@@ -5,11 +5,11 @@ use native.Mathlib.Omega.{arith}
 use Rattle.mesh.proofs.First.{Clear, first-end}
 use Rattle.level.specs.Level.{startOf}
 use Rattle.level.proofs.Mids.{ready-row}
-use Rattle.as_refined.specs.Expected.{strangeNext}
-use Rattle.as_refined.proofs.NextRows.{has-old}
-use Rattle.as_refined.proofs.NextNumbers.{clear-to, clear-here, clear-all, first-below, start-zero, start-next, start-more, start-most, start-all}
-use Rattle.as_refined.proofs.next_level.first_strange_next.Statement.{statement}
-use Rattle.as_refined.proofs.next_level.first_strange_next.Tie as tie
+use Rattle.strange.specs.Expected.{strangeNext}
+use Rattle.strange.proofs.NextRows.{has-old}
+use Rattle.strange.proofs.NextNumbers.{clear-to, clear-here, clear-all, first-below, start-zero, start-next, start-more, start-most, start-all}
+use Rattle.strange.proofs.next_level.first_strange_next.Statement.{statement}
+use Rattle.strange.proofs.next_level.first_strange_next.Tie as tie
 
 abbrev Inv-loop : tie.InvT-loop
 Inv-loop valences rings positions count old start₀ p₀ start p =

@@ -8,7 +8,7 @@ ghost use Rattle.mesh.specs.Search.{first};
 ghost use Rattle.mesh.specs.Refine.{mid, refine};
 ghost use Rattle.rings.specs.Table.{ringOf, rows};
 ghost use Rattle.level.specs.Level.{Ready, HasOld, startOf, placesOf};
-ghost use Rattle.as_refined.specs.Expected.{sameList, strangeNext};
+ghost use Rattle.strange.specs.Expected.{sameList, strangeNext};
 use level::NewRing;
 use level::numbers::count_over;
 use level::numbers::place_over;

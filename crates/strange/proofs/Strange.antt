@@ -11,8 +11,8 @@ use Rattle.mesh.proofs.First.{true-not-false, or-false}
 use Rattle.mesh.specs.Refine.{refine}
 use Rattle.rings.specs.Table.{ringOf, rows}
 use Rattle.rings.specs.Check.{beyondAt}
-use Rattle.as_refined.specs.Expected.{sameList, otherThan, strangeNext}
-use Rattle.as_refined.proofs.SameLists.{and-true, same-self, same-only}
+use Rattle.strange.specs.Expected.{sameList, otherThan, strangeNext}
+use Rattle.strange.proofs.SameLists.{and-true, same-self, same-only}
 
 not-false : (b : Bool) → not b ≡ false → b ≡ true
 not-false true e = refl

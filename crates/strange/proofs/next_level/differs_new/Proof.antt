@@ -5,9 +5,9 @@ use native.Mathlib.Nat.{add-zero}
 use native.Mathlib.Omega.{arith}
 use lib.ListN.{take, drop}
 use Rattle.level.specs.Level.{placesOf}
-use Rattle.as_refined.proofs.SameLists.{Agree, agree-none, six-differ, six-more, six-last}
-use Rattle.as_refined.proofs.next_level.differs_new.Statement.{statement}
-use Rattle.as_refined.proofs.next_level.differs_new.Tie as tie
+use Rattle.strange.proofs.SameLists.{Agree, agree-none, six-differ, six-more, six-last}
+use Rattle.strange.proofs.next_level.differs_new.Statement.{statement}
+use Rattle.strange.proofs.next_level.differs_new.Tie as tie
 
 agree1 : (c : tie.Else1) → let a = c .before .before .before .args in Agree (take 6 (drop (a .row * 32) (a .rings .now))) (placesOf (a .ring)) 1
 agree1 c = let s = c .before .before .before in six-more _ _ (s .pre .1) _ 0 (omega arith) (agree-none) (rw (add-zero (s .args .row * 32)) (c .if1 .left))

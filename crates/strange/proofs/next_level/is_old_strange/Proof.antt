@@ -1,9 +1,9 @@
 -- `is_old_strange` meets its contract. Assumes nothing.
 use native.Mathlib.Omega.{arith}
-use Rattle.as_refined.proofs.Strange.{next-valence, next-ring, next-point}
-use Rattle.as_refined.proofs.NextRows.{want-length}
-use Rattle.as_refined.proofs.next_level.is_old_strange.Statement.{statement}
-use Rattle.as_refined.proofs.next_level.is_old_strange.Tie as tie
+use Rattle.strange.proofs.Strange.{next-valence, next-ring, next-point}
+use Rattle.strange.proofs.NextRows.{want-length}
+use Rattle.strange.proofs.next_level.is_old_strange.Statement.{statement}
+use Rattle.strange.proofs.next_level.is_old_strange.Tie as tie
 
 add-if1 : tie.Need-add-if1
 add-if1 c = omega arith

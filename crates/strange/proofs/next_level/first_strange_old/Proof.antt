@@ -5,11 +5,11 @@ use native.Mathlib.Omega.{arith}
 use Rattle.mesh.proofs.First.{Clear, clear-none, clear-more, first-is, first-end}
 use Rattle.level.specs.Level.{startOf}
 use Rattle.level.proofs.Mids.{ready-row}
-use Rattle.as_refined.specs.Expected.{strangeNext}
-use Rattle.as_refined.proofs.NextRows.{has-old}
-use Rattle.as_refined.proofs.NextNumbers.{start-zero, start-more, start-most}
-use Rattle.as_refined.proofs.next_level.first_strange_old.Statement.{statement}
-use Rattle.as_refined.proofs.next_level.first_strange_old.Tie as tie
+use Rattle.strange.specs.Expected.{strangeNext}
+use Rattle.strange.proofs.NextRows.{has-old}
+use Rattle.strange.proofs.NextNumbers.{start-zero, start-more, start-most}
+use Rattle.strange.proofs.next_level.first_strange_old.Statement.{statement}
+use Rattle.strange.proofs.next_level.first_strange_old.Tie as tie
 
 abbrev Inv-loop : tie.InvT-loop
 Inv-loop valences rings positions count start₀ p₀ start p = (p ≤ count) × ((start ≡ startOf count valences rings p) × Clear (strangeNext count valences rings positions) p)

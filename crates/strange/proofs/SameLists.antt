@@ -10,7 +10,7 @@ use lib.Seq.{ext-getD, getD-take, getD-drop}
 use borrow.Author.Count.{below-more}
 use borrow.Author.Tests.{eq-eqb, eqb-true}
 use Rattle.mesh.proofs.First.{true-not-false, by-cases}
-use Rattle.as_refined.specs.Expected.{sameList}
+use Rattle.strange.specs.Expected.{sameList}
 
 pub and-true : (a b : Bool) → a && b ≡ true → (a ≡ true) × (b ≡ true)
 and-true true b e = (refl, e)

@@ -19,9 +19,9 @@ use Rattle.rings.proofs.Rows.{rows-ring, row-length, room-row}
 use Rattle.level.specs.Level.{Ready, HasOld}
 use Rattle.level.proofs.Mids.{ready-length, ready-entry}
 use Rattle.level.proofs.OldRings.{old-length, old-entry}
-use Rattle.as_refined.specs.Expected.{sameList, strangeNext}
-use Rattle.as_refined.proofs.Strange.{as-wanted}
-use Rattle.as_refined.proofs.SameLists.{Agree, agree-more, agree-all, differ-at}
+use Rattle.strange.specs.Expected.{sameList, strangeNext}
+use Rattle.strange.proofs.Strange.{as-wanted}
+use Rattle.strange.proofs.SameLists.{Agree, agree-more, agree-all, differ-at}
 
 module _ {n : ℕ} {vs rs : List ℕ} (r : Ready n vs rs) where
   abbrev M : Mesh

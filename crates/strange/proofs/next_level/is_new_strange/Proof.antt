@@ -1,9 +1,9 @@
 -- `is_new_strange` meets its contract. Assumes nothing.
 use native.Mathlib.Omega.{arith}
-use Rattle.as_refined.proofs.Strange.{next-valence, next-ring, next-point}
-use Rattle.as_refined.proofs.NextRows.{new-below, new-length, new-compared}
-use Rattle.as_refined.proofs.next_level.is_new_strange.Statement.{statement}
-use Rattle.as_refined.proofs.next_level.is_new_strange.Tie as tie
+use Rattle.strange.proofs.Strange.{next-valence, next-ring, next-point}
+use Rattle.strange.proofs.NextRows.{new-below, new-length, new-compared}
+use Rattle.strange.proofs.next_level.is_new_strange.Statement.{statement}
+use Rattle.strange.proofs.next_level.is_new_strange.Tie as tie
 
 add-if1 : tie.Need-add-if1
 add-if1 c = let pre = c .before .before .pre in omega (arith, new-below (pre .0) (pre .1 .1 .1 .0) (pre .1 .1 .1 .1 .0) (pre .1 .1 .1 .1 .1 .0) (pre .1 .1 .1 .1 .1 .1))

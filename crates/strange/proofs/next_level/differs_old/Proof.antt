@@ -3,10 +3,10 @@ use Prim.Native.Nat.{_+_, _-_, _*_, _≤_}
 use native.Mathlib.Omega.{arith}
 use Rattle.mesh.specs.Refine.{refine}
 use Rattle.rings.specs.Table.{ringOf, rows}
-use Rattle.as_refined.proofs.SameLists.{Agree, agree-none}
-use Rattle.as_refined.proofs.NextRows.{old-differs, old-agrees, old-same}
-use Rattle.as_refined.proofs.next_level.differs_old.Statement.{statement}
-use Rattle.as_refined.proofs.next_level.differs_old.Tie as tie
+use Rattle.strange.proofs.SameLists.{Agree, agree-none}
+use Rattle.strange.proofs.NextRows.{old-differs, old-agrees, old-same}
+use Rattle.strange.proofs.next_level.differs_old.Statement.{statement}
+use Rattle.strange.proofs.next_level.differs_old.Tie as tie
 
 abbrev Inv-loop : tie.InvT-loop
 Inv-loop valences rings count p start n a i₀ i = (i ≤ n) × Agree (ringOf valences rings (count + p)) (refine (rows count valences rings) .ring p) i

@@ -1,0 +1,2 @@
+-- Reason 11: which stack vertices are strange.
+pub mod Expected
