@@ -175,14 +175,14 @@ fn refresh_edge(
     ensures { λ _. ⌜ now (positions .exit) ≡ pointsWith (rows count (now (valences .entry)) (now (rings .entry))) base (marked (now (map .entry))) (now (positions .entry)) x ⌝ }
 {
     if is_new_touched(map, valences, rings, base, count, p, i) {
-        mark(map, base + count + x);
         let point = new_point(valences, rings, positions, count, p, i);
+        mark(map, base + count + x);
         set_point(positions, count + x, point);
     }
 }
 
 // Marks and sets the new vertex x of the next level, if it is touched. The ends of its edge are
-// places 0 and 3 of its ring; if p is not touched on the next level, x is not.
+// places 0 and 3 of its ring.
 fn refresh_new(
     map: &mut [u32],
     positions: &mut [i32],
@@ -197,17 +197,14 @@ fn refresh_new(
     requires { ⌜ NextRings count (now valences) (now rings) ⌝ }
     requires { ⌜ count ≤ x ⌝ }
     requires { ⌜ x < count + edges (rows count (now valences) (now rings)) ⌝ }
-    requires { ⌜ OldMarked (rows count (now valences) (now rings)) base (marked (now map)) ⌝ }
     ensures { λ _. ⌜ marked (now (map .exit)) ≡ marksWith (rows count (now (valences .entry)) (now (rings .entry))) base (marked (now (map .entry))) x ⌝ }
     ensures { λ _. ⌜ now (positions .exit) ≡ pointsWith (rows count (now (valences .entry)) (now (rings .entry))) base (marked (now (map .entry))) (now (positions .entry)) x ⌝ }
 {
     let a = (count + x) * MOST_VALENCE;
     let p = rings[a] as usize;
-    if is_marked(map, base + count + p) {
-        let q = rings[a + 3] as usize;
-        let i = seek(ring_of(valences, rings, p), q);
-        refresh_edge(map, positions, valences, rings, base, count, x, p, i);
-    }
+    let q = rings[a + 3] as usize;
+    let i = seek(ring_of(valences, rings, p), q);
+    refresh_edge(map, positions, valences, rings, base, count, x, p, i);
 }
 
 // Marks and sets vertex x of the next level, if it is touched.
@@ -283,6 +280,9 @@ fn untouched_ahead(
     }
     let a = (count + x) * MOST_VALENCE;
     let low = rings[a] as usize;
+    if is_marked(map, base + count + low) {
+        return 0;
+    }
     let free = clear_ahead(map, base + count + low, count - low);
     if free == 0 {
         return 0;

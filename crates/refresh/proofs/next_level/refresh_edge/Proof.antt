@@ -13,9 +13,9 @@ use Rattle.refresh.proofs.Renewed.{marks-yes, marks-no, points-yes, poi
 use Rattle.refresh.proofs.next_level.refresh_edge.Statement.{statement}
 use Rattle.refresh.proofs.next_level.refresh_edge.Tie as tie
 
-below : (c : tie.After-mark-arg) → let s = c .before .before .before .before .before .before .before in s .args .x < s .args .count + edges (rows (s .args .count) (s .args .valences .now) (s .args .rings .now))
+below : (c : tie.After-mark-arg) → let s = c .before .before .before .before .before .before .before .before .before in s .args .x < s .args .count + edges (rows (s .args .count) (s .args .valences .now) (s .args .rings .now))
 below c =
-    let s = c .before .before .before .before .before .before .before in
+    let s = c .before .before .before .before .before .before .before .before .before in
     let h = s .pre in
     let p = h .1 .1 in
     let r = edge-range (h .1 .0 .ready) (s .args .p) (s .args .i) (p .0) (p .1 .0) (p .1 .1 .0) in
@@ -27,32 +27,32 @@ is-new-touched-requires c κs =
     let h = c .before .before .before .before .pre in
     (in-map _ (h .0) (omega arith), (h .1 .0 .ready, (h .1 .1 .0, (h .1 .1 .1 .0, h .1 .1 .1 .1 .0))))
 
-add-mark : tie.Need-add-mark
-add-mark c = let m = c .before .before .before .before .before .before .before .pre .0 .small in omega arith
-
-add-mark-2 : tie.Need-add-mark-2
-add-mark-2 c = let x = below c in let m = c .before .before .before .before .before .before .before .pre .0 .small in omega arith
-
-mark-requires : tie.Need-mark-requires
-mark-requires c κs = let x = below c in let m = c .before .before .before .before .before .before .before .pre .0 .room in omega arith
-
 new-point-requires : tie.Need-new-point-requires
 new-point-requires c κs =
-    let h = c .before .before .before .before .before .before .before .before .before .before .before .pre in
+    let h = c .before .before .before .before .before .before .before .pre in
     (h .1 .0 .ready, (h .1 .0 .near, (h .1 .1 .0, h .1 .1 .1 .0)))
+
+add-mark : tie.Need-add-mark
+add-mark c = let m = c .before .before .before .before .before .before .before .before .before .pre .0 .small in omega arith
+
+add-mark-2 : tie.Need-add-mark-2
+add-mark-2 c = let x = below c in let m = c .before .before .before .before .before .before .before .before .before .pre .0 .small in omega arith
+
+mark-requires : tie.Need-mark-requires
+mark-requires c κs = let x = below c in let m = c .before .before .before .before .before .before .before .before .before .pre .0 .room in omega arith
 
 add-set-point : tie.Need-add-set-point
 add-set-point c =
-    let t = c .before .before .before .before .before .before in
+    let t = c .before .before .before .before in
     let x = below t in
-    let m = t .before .before .before .before .before .before .before .pre .0 .small in
+    let m = t .before .before .before .before .before .before .before .before .before .pre .0 .small in
     omega arith
 
 set-point-requires : tie.Need-set-point-requires
 set-point-requires c κs =
-    let t = c .before .before .before .before .before .before in
+    let t = c .before .before .before .before in
     let x = below t in
-    let h = t .before .before .before .before .before .before .before .pre in
+    let h = t .before .before .before .before .before .before .before .before .before .pre in
     let m = h .0 .small in
     let p = h .1 .0 .points in
     (omega arith, omega arith)
@@ -72,8 +72,8 @@ returns c =
     let p = h .1 .1 in
     let e = t .before .is-new-touched .ensures ∙ ap (touchedNext _ _) (sym (p .1 .1 .1)) in
     let m = ap (loopMask _) (p .1 .1 .1) ∙ edge-mask-is (h .1 .0 .ready) (s .args .p) (s .args .i) (p .0) (p .1 .0) (p .1 .1 .0) in (
-      marks-yes _ _ _ _ _ e (t .if1 .taken) (c .before .before .before .before .before .before .before .mark .ensures),
-      points-yes _ _ _ _ _ e (t .if1 .taken) _ _ m (c .before .before .before .new-point .ensures .0) (c .before .set-point .ensures),
+      marks-yes _ _ _ _ _ e (t .if1 .taken) (c .before .before .before .before .before .mark .ensures),
+      points-yes _ _ _ _ _ e (t .if1 .taken) _ _ m (c .before .before .before .before .before .before .before .new-point .ensures .0) (c .before .set-point .ensures),
     )
 
 same-length-3 : tie.Need-same-length-3
@@ -90,10 +90,10 @@ refresh-edge-spec =
     tie.close
     (tie.spec
     is-new-touched-requires
+    new-point-requires
     add-mark
     add-mark-2
     mark-requires
-    new-point-requires
     add-set-point
     set-point-requires
     same-length

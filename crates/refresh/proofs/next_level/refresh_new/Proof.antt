@@ -1,17 +1,15 @@
 -- `refresh_new` meets its contract. Assumes nothing.
 use Prim.Native.Nat.{_*_, _+_}
-use mathlib.Core.Path.{refl}
 use native.Mathlib.Omega.{arith}
 use lib.ListN.{getD}
 use borrow.Author.Needs.{needs}
 use Rattle.level.proofs.Mids.{ready-row}
-use Rattle.refresh.proofs.Ends.{EdgeOf, ends-read, sought, untouched}
-use Rattle.refresh.proofs.Renewed.{marks-no, points-no}
+use Rattle.refresh.proofs.Ends.{EdgeOf, ends-read, sought}
 use Rattle.refresh.proofs.next_level.refresh_new.Statement.{statement}
 use Rattle.refresh.proofs.next_level.refresh_new.Tie as tie
 
 edge : (s : tie.Start) → let a = s .args in EdgeOf (a .count) (a .valences .now) (a .rings .now) (a .x) (getD (a .rings .now) ((a .count + a .x) * 32) 0) (getD (a .rings .now) ((a .count + a .x) * 32 + 3) 0)
-edge s = let h = s .pre in ends-read (h .1 .0 .ready) (h .1 .1 .0) (s .args .x) (h .1 .1 .1 .0) (h .1 .1 .1 .1 .0)
+edge s = let h = s .pre in ends-read (h .1 .0 .ready) (h .1 .1 .0) (s .args .x) (h .1 .1 .1 .0) (h .1 .1 .1 .1)
 
 add-a : tie.Need-add-a
 add-a c = let m = c .before .before .before .pre .0 .small in omega arith
@@ -28,34 +26,25 @@ shared-slice-read-p c = let h = c .before .before .before .before .pre in let m 
 cast-p : tie.Need-cast-p
 cast-p c = let e = edge (c .before .before .before .before) in let m = c .before .before .before .before .pre .0 .small in omega arith
 
-add-is-marked : tie.Need-add-is-marked
-add-is-marked c = let m = c .before .before .before .before .before .pre .0 .small in omega arith
-
-add-is-marked-2 : tie.Need-add-is-marked-2
-add-is-marked-2 c = let s = c .before .before .before .before .before in let e = edge s in let m = s .pre .0 .small in omega arith
-
-is-marked-requires : tie.Need-is-marked-requires
-is-marked-requires c κs = let s = c .before .before .before .before .before in let e = edge s in let m = s .pre .0 .room in omega arith
-
 add-q : tie.Need-add-q
-add-q c = let m = c .before .before .before .before .before .before .before .pre .0 .small in omega arith
+add-q c = let m = c .before .before .before .before .pre .0 .small in omega arith
 
 mul-q : tie.Need-mul-q
 mul-q c = search needs
 
 shared-slice-read-q : tie.Need-shared-slice-read-q
 shared-slice-read-q c =
-    let h = c .before .before .before .before .before .before .before .before .pre in
+    let h = c .before .before .before .before .before .pre in
     let m = h .0 .small in
     let r = h .1 .0 .ready .room .rings in
     omega arith
 
 cast-q : tie.Need-cast-q
-cast-q c = let s = c .before .before .before .before .before .before .before .before in let e = edge s in let m = s .pre .0 .small in omega arith
+cast-q c = let s = c .before .before .before .before .before in let e = edge s in let m = s .pre .0 .small in omega arith
 
 ring-of-requires : tie.Need-ring-of-requires
 ring-of-requires c κs =
-    let s = c .before .before .before .before .before .before .before .before in
+    let s = c .before .before .before .before .before in
     let e = edge s in
     ready-row (s .pre .1 .0 .ready) (omega arith)
 
@@ -64,7 +53,7 @@ seek-requires c κs = search needs
 
 refresh-edge-requires : tie.Need-refresh-edge-requires
 refresh-edge-requires c κs =
-    let s = c .before .before .before .before .before .before .before .before .before .before .before .before in
+    let s = c .before .before .before .before .before .before .before .before .before in
     let h = s .pre in
     let r = c .before .before .before .ring-of in
     (h .0, (h .1 .0, sought (h .1 .0 .ready) (edge s) (r .result .now) (r .ensures .0) _ (c .before .before .seek .ensures)))
@@ -78,16 +67,6 @@ same-length-2 c = search needs
 returns : tie.Need-returns
 returns c = c .before .before .before .refresh-edge .ensures
 
-same-length-3 : tie.Need-same-length-3
-same-length-3 c = search needs
-
-returns-2 : tie.Need-returns-2
-returns-2 c =
-    let s = c .before .before .before .before .before .before .before in
-    let h = s .pre in
-    let e = untouched (h .1 .0 .ready) (edge s) _ _ (h .1 .1 .1 .1 .1) _ (c .before .is-marked .ensures) (c .if1 .left) in
-    (marks-no _ _ _ _ _ e refl, points-no _ _ _ _ _ e refl _)
-
 pub refresh-new-spec : {M : Type 1} → statement M
 refresh-new-spec =
     tie.close
@@ -97,9 +76,6 @@ refresh-new-spec =
     mul-p
     shared-slice-read-p
     cast-p
-    add-is-marked
-    add-is-marked-2
-    is-marked-requires
     add-q
     mul-q
     shared-slice-read-q
@@ -109,6 +85,4 @@ refresh-new-spec =
     refresh-edge-requires
     same-length
     same-length-2
-    returns
-    same-length-3
-    returns-2)
+    returns)

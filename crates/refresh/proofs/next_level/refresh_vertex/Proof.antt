@@ -9,7 +9,7 @@ refresh-old-requires : tie.Need-refresh-old-requires
 refresh-old-requires c κs = let h = c .before .before .before .before .before .before .pre in (h .0, (h .1 .0, (c .before .before .if1 .taken, h .1 .1 .1 .1)))
 
 refresh-new-requires : tie.Need-refresh-new-requires
-refresh-new-requires c κs = let h = c .before .before .before .before .before .before .pre in (h .0, (h .1 .0, (h .1 .1 .0, (c .before .before .if1 .left, (h .1 .1 .1 .0, h .1 .1 .1 .1)))))
+refresh-new-requires c κs = let h = c .before .before .before .before .before .before .pre in (h .0, (h .1 .0, (h .1 .1 .0, (c .before .before .if1 .left, h .1 .1 .1 .0))))
 
 same-length : tie.Need-same-length
 same-length c = search needs
