@@ -27,7 +27,7 @@ use Rattle.level.specs.Level.{Ready, HasOld}
 use Rattle.level.proofs.Mids.{ready-length, ready-entry, ring-once, old-after, old-before, new-places}
 use Rattle.refine.proofs.LevelRows.{part-is}
 use Rattle.strange.specs.Expected.{strangeNext}
-use Rattle.as_refined.specs.Agreement.{NamesUpward, NamesDownward, EdgeVertex, RowsAgree, edgeKey, Ascends, SameValences, SixValences, NearFrom}
+use Rattle.agreement.specs.Agreement.{NamesUpward, NamesDownward, EdgeVertex, RowsAgree, edgeKey, Ascends, SameValences, SixValences, NearFrom}
 use Rattle.strange.proofs.Strange.{not-other}
 use Rattle.strange.proofs.NextRows.{next-row, want-length, want-entry, new-is, new-length}
 use Rattle.strange.proofs.NextNumbers.{clear-all}

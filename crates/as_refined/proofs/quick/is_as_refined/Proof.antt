@@ -2,8 +2,8 @@
 use native.Mathlib.Omega.{arith}
 use borrow.Author.Needs.{needs}
 use borrow.Author.Tests.{not-false}
-use Rattle.as_refined.proofs.Telling.{no-tells}
-use Rattle.as_refined.proofs.QuickRows.{ascends-asks}
+use Rattle.agreement.proofs.Telling.{no-tells}
+use Rattle.agreement.proofs.QuickRows.{ascends-asks}
 use Rattle.as_refined.proofs.QuickLevel.{quick-clear}
 use Rattle.as_refined.proofs.quick.is_as_refined.Statement.{statement}
 use Rattle.as_refined.proofs.quick.is_as_refined.Tie as tie

@@ -4,11 +4,11 @@ use native.Mathlib.Omega.{arith}
 use borrow.Author.Needs.{needs}
 use borrow.Author.Tests.{not-false}
 use Rattle.level.proofs.Mids.{ready-row}
-use Rattle.as_refined.specs.Agreement.{RowsAgree}
-use Rattle.as_refined.proofs.Telling.{no-tells}
-use Rattle.as_refined.proofs.QuickRows.{above-row, row-asks, rows-none, rows-more}
-use Rattle.as_refined.proofs.quick.rows_agree.Statement.{statement}
-use Rattle.as_refined.proofs.quick.rows_agree.Tie as tie
+use Rattle.agreement.specs.Agreement.{RowsAgree}
+use Rattle.agreement.proofs.Telling.{no-tells}
+use Rattle.agreement.proofs.QuickRows.{above-row, row-asks, rows-none, rows-more}
+use Rattle.agreement.proofs.rows.rows_agree.Statement.{statement}
+use Rattle.agreement.proofs.rows.rows_agree.Tie as tie
 
 abbrev Inv-loop : tie.InvT-loop
 Inv-loop valences rings count end above p₀ p = (p ≤ count) × RowsAgree count end p valences rings

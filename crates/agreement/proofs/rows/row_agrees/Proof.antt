@@ -3,9 +3,9 @@ use Prim.Native.Nat.{_-_, _≤_}
 use native.Mathlib.Omega.{arith}
 use borrow.Author.Needs.{needs}
 use borrow.Author.Tests.{not-false}
-use Rattle.as_refined.proofs.Telling.{no-tells, Walked, walked-none, walked-more, walked-all}
-use Rattle.as_refined.proofs.quick.row_agrees.Statement.{statement}
-use Rattle.as_refined.proofs.quick.row_agrees.Tie as tie
+use Rattle.agreement.proofs.Telling.{no-tells, Walked, walked-none, walked-more, walked-all}
+use Rattle.agreement.proofs.rows.row_agrees.Statement.{statement}
+use Rattle.agreement.proofs.rows.row_agrees.Tie as tie
 
 abbrev Inv-loop : tie.InvT-loop
 Inv-loop row next above count end p last before₀ x₀ i₀ before x i = (i ≤ last) × Walked row next above count end p before x i

@@ -11,7 +11,7 @@ use Rattle.mesh.specs.Ring.{placeAfter, placeBefore}
 use Rattle.mesh.proofs.Lists.{lt-split}
 use Rattle.mesh.proofs.Places.{after-last, after-other, before-other}
 use Rattle.mesh.proofs.First.{true-not-false}
-use Rattle.as_refined.specs.Agreement.{Tells, NamesEdge, EdgeVertex, RowAgrees, edgeKey, Ascends}
+use Rattle.agreement.specs.Agreement.{Tells, NamesEdge, EdgeVertex, RowAgrees, edgeKey, Ascends}
 
 pub no-tells : {X : Type 0} → Tells false X
 no-tells e = absurd (true-not-false e refl)

@@ -1,9 +1,9 @@
 -- `is_edge_vertex` meets its contract. Assumes nothing.
 use Prim.Native.Nat.{_*_}
 use borrow.Author.Needs.{needs}
-use Rattle.as_refined.proofs.Telling.{no-tells, names-part}
-use Rattle.as_refined.proofs.quick.is_edge_vertex.Statement.{statement}
-use Rattle.as_refined.proofs.quick.is_edge_vertex.Tie as tie
+use Rattle.agreement.proofs.Telling.{no-tells, names-part}
+use Rattle.agreement.proofs.rows.is_edge_vertex.Statement.{statement}
+use Rattle.agreement.proofs.rows.is_edge_vertex.Tie as tie
 
 returns : tie.Need-returns
 returns c = no-tells

@@ -1,9 +1,9 @@
 -- `row_of_six_agrees` meets its contract. Assumes nothing.
 use lib.Dec.{lit<}
 use borrow.Author.Tests.{not-false}
-use Rattle.as_refined.proofs.Telling.{no-tells, six-place, six-agree}
-use Rattle.as_refined.proofs.quick.row_of_six_agrees.Statement.{statement}
-use Rattle.as_refined.proofs.quick.row_of_six_agrees.Tie as tie
+use Rattle.agreement.proofs.Telling.{no-tells, six-place, six-agree}
+use Rattle.agreement.proofs.rows.row_of_six_agrees.Statement.{statement}
+use Rattle.agreement.proofs.rows.row_of_six_agrees.Tie as tie
 
 shared-slice-read-is-edge-vertex : tie.Need-shared-slice-read-is-edge-vertex
 shared-slice-read-is-edge-vertex c = let s = c .before .before .before .before in six-place (s .args .row .now) (s .pre .1 .1 .0) 0 (lit< tt)

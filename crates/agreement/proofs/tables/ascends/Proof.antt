@@ -3,10 +3,10 @@ use Prim.Native.Nat.{_+_, _-_, _*_, _≤_}
 use mathlib.Core.Logic.{⊎-elim}
 use native.Mathlib.Omega.{arith}
 use borrow.Author.Tests.{eqb-true}
-use Rattle.as_refined.specs.Agreement.{edgeKey}
-use Rattle.as_refined.proofs.Telling.{Rising, rising-none, rising-fall, rising-more}
-use Rattle.as_refined.proofs.quick.ascends.Statement.{statement}
-use Rattle.as_refined.proofs.quick.ascends.Tie as tie
+use Rattle.agreement.specs.Agreement.{edgeKey}
+use Rattle.agreement.proofs.Telling.{Rising, rising-none, rising-fall, rising-more}
+use Rattle.agreement.proofs.tables.ascends.Statement.{statement}
+use Rattle.agreement.proofs.tables.ascends.Tie as tie
 
 abbrev Inv-loop : tie.InvT-loop
 Inv-loop rings k falls₀ least₀ x₀ falls least x = (x ≤ k) × Rising rings falls least x

@@ -6,13 +6,13 @@ use native.Mathlib.Omega.{arith}
 use lib.ListN.{getD}
 use borrow.Author.Tests.{eqb-true}
 use borrow.Author.Needs.{needs}
-use Rattle.as_refined.proofs.Telling.{Missed, missed-none, missed-one, missed-not}
+use Rattle.agreement.proofs.Telling.{Missed, missed-none, missed-one, missed-not}
 use mathlib.Core.Bool.{false}
 use lib.IntN.{pos}
 use Rattle.rings.proofs.Checks.{beyond-read}
 use Rattle.units.specs.Coordinate.{beyond as outside}
-use Rattle.as_refined.proofs.quick.is_near_from.Statement.{statement}
-use Rattle.as_refined.proofs.quick.is_near_from.Tie as tie
+use Rattle.agreement.proofs.tables.is_near_from.Statement.{statement}
+use Rattle.agreement.proofs.tables.is_near_from.Tie as tie
 
 abbrev Inv-loop : tie.InvT-loop
 Inv-loop positions from k beyond₀ i₀ beyond i = (i ≤ k) × Missed (λ (j : ℕ). outside (getD positions (from + j) (pos 0)) ≡ false) beyond i

@@ -2,9 +2,9 @@
 use native.Mathlib.Omega.{arith}
 use borrow.Author.Needs.{needs}
 use borrow.Author.Tests.{eqb-true}
-use Rattle.as_refined.proofs.Telling.{no-tells}
-use Rattle.as_refined.proofs.quick.names_edge.Statement.{statement}
-use Rattle.as_refined.proofs.quick.names_edge.Tie as tie
+use Rattle.agreement.proofs.Telling.{no-tells}
+use Rattle.agreement.proofs.rows.names_edge.Statement.{statement}
+use Rattle.agreement.proofs.rows.names_edge.Tie as tie
 
 shared-slice-read-if2 : tie.Need-shared-slice-read-if2
 shared-slice-read-if2 c = search needs

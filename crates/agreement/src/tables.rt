@@ -1,0 +1,79 @@
+// What one look along a table tells: ascending edges, valences, coordinates in range. Misses are counted, and a count of none tells that there is none.
+ghost use Prim.Native.Nat.{_+_, _*_, _≤_};
+ghost use lib.ListN.{length};
+ghost use Rattle.agreement.specs.Agreement.{Tells, Ascends, SameValences, SixValences, NearFrom};
+use mesh_check::positions::is_beyond;
+use rings::MOST_VALENCE;
+
+// Do the edges that the rings in the first rows name ascend?
+pub fn ascends(rings: &[u16], k: usize) -> bool
+    requires { ⌜ k ≤ 65535 ⌝ }
+    requires { ⌜ k * 32 ≤ length (now rings) ⌝ }
+    ensures { λ r. ⌜ Tells r (Ascends (now (rings .entry)) k) ⌝ }
+{
+    let mut falls: usize = 0;
+    let mut least: usize = 0;
+    let mut x = 0;
+    while x < k {
+        let a = x * MOST_VALENCE;
+        let key = (rings[a] as usize) * 65536 + (rings[a + 3] as usize);
+        if key < least {
+            falls += 1;
+        }
+        least = key + 1;
+        x += 1;
+    }
+    falls == 0
+}
+
+// Have the old vertices of the next level the valences they had?
+pub fn has_same_valences(valences: &[u16], count: usize) -> bool
+    requires { ⌜ count ≤ 65535 ⌝ }
+    requires { ⌜ count + count ≤ length (now valences) ⌝ }
+    ensures { λ r. ⌜ Tells r (SameValences (now (valences .entry)) count count) ⌝ }
+{
+    let mut other: u16 = 0;
+    let mut v = 0;
+    while v < count {
+        if valences[count + v] != valences[v] {
+            other += 1;
+        }
+        v += 1;
+    }
+    other == 0
+}
+
+// Are k valences from a place on 6?
+pub fn has_six_valences(valences: &[u16], from: usize, k: usize) -> bool
+    requires { ⌜ from + k ≤ length (now valences) ⌝ }
+    requires { ⌜ from ≤ 1048576 ⌝ }
+    requires { ⌜ k ≤ 65535 ⌝ }
+    ensures { λ r. ⌜ Tells r (SixValences (now (valences .entry)) from k) ⌝ }
+{
+    let mut other: u16 = 0;
+    let mut x = 0;
+    while x < k {
+        if valences[from + x] != 6 {
+            other += 1;
+        }
+        x += 1;
+    }
+    other == 0
+}
+
+// Are k coordinates from a place on in range?
+pub fn is_near_from(positions: &[i32], from: usize, k: usize) -> bool
+    requires { ⌜ from + k ≤ length (now positions) ⌝ }
+    requires { ⌜ from + k ≤ 1048576 ⌝ }
+    ensures { λ r. ⌜ Tells r (NearFrom (now (positions .entry)) from k) ⌝ }
+{
+    let mut beyond: u32 = 0;
+    let mut i = 0;
+    while i < k {
+        if is_beyond(positions[from + i]) {
+            beyond += 1;
+        }
+        i += 1;
+    }
+    beyond == 0
+}
