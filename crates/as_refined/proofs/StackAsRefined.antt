@@ -13,14 +13,14 @@ use borrow.Author.Tests.{lt-ltb}
 use Rattle.mesh.specs.Search.{first}
 use Rattle.mesh.specs.Mesh.{Mesh, mesh, edges}
 use Rattle.mesh.specs.Refine.{lowEnd, highEnd, oldRing, newRing, refine, level}
-use Rattle.mesh.proofs.First.{Clear, or-false, or-both}
+use Rattle.mesh.proofs.First.{Clear, or-both}
 use Rattle.mesh.proofs.Levels.{level-sound}
 use Rattle.mesh.proofs.Refined.{mesh-same}
-use Rattle.units.specs.Coordinate.{InRange, beyond}
+use Rattle.units.specs.Coordinate.{InRange}
 use Rattle.rings.specs.Table.{ringOf, rows, coordinateAt}
 use Rattle.rings.specs.Check.{beyondAt}
 use Rattle.rings.proofs.Rows.{rows-ring, row-length, room-row}
-use Rattle.rings.proofs.Checks.{within, not-beyond}
+use Rattle.rings.proofs.Checks.{near-of, not-beyond}
 use Rattle.level.specs.Level.{Ready, Near}
 use Rattle.refine.specs.Stack.{levelEdges, levelCount, levelStart, stackCount}
 use Rattle.refine.specs.Accepts.{AcceptsStack}
@@ -54,20 +54,6 @@ pub record AsRefined (n : ℕ) (vs rs : List ℕ) (ps : List ℤ) (k : ℕ) : Ty
   pub mesh : rows (size n vs rs k) (valencesFrom n vs rs k) (ringsFrom n vs rs k) ≡ level (rows n vs rs) k
   pub most : (x : ℕ) → x < size n vs rs k → getD (valencesFrom n vs rs k) x 0 ≤ 32
   pub near : Near (size n vs rs k) (positionsFrom n vs rs k ps)
-
--- a point that is not beyond the range
-near-of : (ps : List ℤ) (v : ℕ) → beyondAt ps v ≡ false → (axis : ℕ) → axis < 3 → InRange (coordinateAt ps axis v)
-unfolding beyondAt
-near-of ps v e axis h =
-    let a = or-false (beyond (coordinateAt ps 0 v)) _ e in
-    let b = or-false (beyond (coordinateAt ps 1 v)) _ (a .1) in
-    go axis h (within (coordinateAt ps 0 v) (a .0)) (within (coordinateAt ps 1 v) (b .0)) (within (coordinateAt ps 2 v) (b .1))
-  where
-    go : (axis : ℕ) → axis < 3 → InRange (coordinateAt ps 0 v) → InRange (coordinateAt ps 1 v) → InRange (coordinateAt ps 2 v) → InRange (coordinateAt ps axis v)
-    go zero h x y z = x
-    go (suc zero) h x y z = y
-    go (suc (suc zero)) h x y z = z
-    go (suc (suc (suc k))) h x y z = absurd (omega arith)
 
 pub of-near : (ps : List ℤ) (v : ℕ) → ((axis : ℕ) → axis < 3 → InRange (coordinateAt ps axis v)) → beyondAt ps v ≡ false
 unfolding beyondAt

@@ -1,6 +1,6 @@
 -- Document 01's cases hold: both sides of each line compute to the same.
 -- Assumes nothing.
-use mathlib.Core.Path.{_≡_, refl}
+use mathlib.Core.Path.{refl}
 use lib.Ieee.{ofBits, le, add}
 use Rattle.mesh.specs.Search.{firstFrom, first, some}
 use Rattle.mesh.specs.Ring.{has, placeAfter, placeBefore, next, prev, follows}
@@ -22,7 +22,7 @@ use Rattle.ring_query.specs.Queries.{withNeighbour, nextAnswer}
 use Rattle.refine.specs.Stack.{levelStart, stackCount, levelOf, numberIn, badLevels, tooLarge, shortStack}
 use Rattle.refine.specs.Refinement.{stackedValences, stackedRings, stackedPositions, stackVerdict, refineAnswer, refineValences, refineRings, refinePositions}
 use Rattle.plan.specs.Moves.{placed, step}
-use Rattle.map.specs.Map.{wordCount, word, mapWords}
+use Rattle.map.specs.Map.{word, mapWords}
 use Rattle.strange.specs.Expected.{whole, otherThan, wanted, strange}
 use Rattle.moves.specs.Apply.{beforeMoves, moved, applyVerdict, touchedAt, touchedTotal, touchedMap, applyAnswer, applyMap}
 use Rattle.meshfile.specs.Layout.{fileCount, rowAt, fileValence, fileRing, filePoint, isFirst, isRow, isLast, fileVerdict}

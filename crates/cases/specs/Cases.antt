@@ -2,10 +2,10 @@
 -- Assumes nothing.
 use mathlib.Core.Path.{_≡_}
 use mathlib.Core.Bool.{true, false}
-use mathlib.Core.List.{List, [], _∷_, map}
-use Prim.Native.Nat.{ℕ, _+_, _^_}
+use mathlib.Core.List.{[], _∷_, map}
+use Prim.Native.Nat.{_+_, _^_}
 use lib.Dec.{eqb}
-use lib.IntN.{ℤ, pos, negsuc}
+use lib.IntN.{pos, negsuc}
 use lib.Ieee.{fin}
 use lib.ListN.{length, take, drop, replicate}
 use Rattle.mesh.specs.Refine.{refine}

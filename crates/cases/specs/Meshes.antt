@@ -3,7 +3,7 @@
 use mathlib.Core.List.{List, [], _∷_, _++_, map}
 use Prim.Native.Nat.{ℕ}
 use lib.IntN.{ℤ, pos}
-use lib.ListN.{getD, replicate, length}
+use lib.ListN.{getD, length}
 use Rattle.mesh.specs.Mesh.{Mesh, mesh}
 use Rattle.rings.specs.Table.{valenceRows, ringRows}
 

@@ -18,7 +18,7 @@ use Rattle.rings.specs.declared.Verdict.the-variants.{Accepted, Refused}
 use Rattle.rings.specs.declared.Amount.{Amount}
 use Rattle.rings.specs.declared.Amount.the-variants as amount
 use Rattle.rings.specs.declared.Amount.the-variants.{Of}
-use Rattle.rings.proofs.Tables.{length-gather}
+use Rattle.rings.proofs.Tables.{length-gather, length-padded}
 use Rattle.rings.proofs.Verdicts.{if-hit, if-pass}
 use Rattle.meshfile.specs.Bytes.{numberAt, coordinateOf, afterAt}
 use Rattle.meshfile.specs.Blocks.{Put, gatherFrom}
@@ -136,10 +136,6 @@ read-none s vs rs ps e =
       put-r = put-none (omega arith);
       put-p = put-none (omega arith);
     }
-
-pub length-padded : (l : List ℕ) → length l ≤ 32 → length (padded l) ≡ 32
-unfolding padded
-length-padded l h = length-append l (replicate (32 - length l) 65535) ∙ omega (arith, length-replicate {A = ℕ} (32 - length l) 65535)
 
 wide-next : (s : List ℕ) (v : ℕ) → length (ringRows (fileRing s) v) ≡ v * 32 → length (fileRing s v) ≤ 32 → length (ringRows (fileRing s) (v + 1)) ≡ (v + 1) * 32
 unfolding ringRows

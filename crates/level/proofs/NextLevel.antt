@@ -22,10 +22,9 @@ use Rattle.mesh.proofs.Refined.{refine-sound, old-ring}
 use Rattle.mesh.proofs.Levels.{loop-grounded}
 use Rattle.mesh.proofs.Refresh.{byMask-same}
 use Rattle.rings.specs.Table.{ringOf, rows, padded, valenceRows, ringRows, pointRows}
-use Rattle.rings.proofs.Tables.{length-gather}
+use Rattle.rings.proofs.Tables.{length-gather, length-padded}
 use Rattle.rings.proofs.Rows.{rows-ring}
 use Rattle.level.specs.Level.{startOf}
-use Rattle.level.proofs.Written.{padded-length}
 
 -- ---- rings and masks of the next level
 
@@ -94,7 +93,7 @@ module _ (M : Mesh) (S : Sound M) (k : ℕ) where
   length-valences = length-gather (λ v. length (refine M .ring v) ∷ []) 1 (λ i. refl) k ∙ mul-one k
 
   pub wide-ring : (i : ℕ) → length (padded (refine M .ring i)) ≡ 32
-  wide-ring i = padded-length (refine M .ring i) (short-ring M S i)
+  wide-ring i = length-padded (refine M .ring i) (short-ring M S i)
 
   pub length-rings : length (ringRows (refine M .ring) k) ≡ k * 32
   unfolding ringRows

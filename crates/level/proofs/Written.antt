@@ -1,11 +1,11 @@
 -- Rows that are written one after the other behind a level, and again over what was written. Assumes nothing.
-use Prim.Native.Nat.{ℕ, zero, suc, _+_, _-_, _≤_, _<_}
-use mathlib.Core.Path.{_≡_, refl, sym, ap, ap₂, subst, _∙_}
-use mathlib.Core.List.{List, _++_}
+use Prim.Native.Nat.{ℕ, _+_, _-_, _≤_, _<_}
+use mathlib.Core.Path.{_≡_, sym, ap, subst, _∙_}
+use mathlib.Core.List.{List}
 use mathlib.Core.Logic.{⊎-elim}
 use native.Mathlib.Numerals.{add-one}
 use native.Mathlib.Omega.{arith}
-use lib.ListN.{length, getD, length-append, length-replicate, List·getD-append}
+use lib.ListN.{length, getD, List·getD-append}
 use lib.Seq.{ext-getD}
 use Rattle.mesh.proofs.Lists.{lt-split}
 use Rattle.rings.specs.Table.{put, gather, padded}
@@ -30,20 +30,12 @@ module _ {ℓ} {A : Type ℓ} (d : A) (t : List A) (a : ℕ) (b c : List A) (ove
       (lt-split i a))
 
 module _ {ℓ} {A : Type ℓ} where
-  pub gather-same : (f g : ℕ → List A) (n : ℕ) → ((i : ℕ) → i < n → f i ≡ g i) → gather f n ≡ gather g n
-  gather-same f g zero h = refl
-  gather-same f g (suc n) h = ap₂ (λ (x y : List A). x ++ y) (gather-same f g n (λ i l. h i (omega arith))) (h n (omega arith))
-
   -- the next row
   pub gather-step : (f : ℕ → List A) (t : List A) (a k at : ℕ) → at ≡ a + length (gather f k) → at + length (f k) ≤ length t → put (put t a (gather f k)) at (f k) ≡ put t a (gather f (k + 1))
   gather-step f t a k at e h =
       ap (λ (j : ℕ). put (put t a (gather f k)) j (f k)) e ∙ gather-more f t a k (omega arith) ∙ ap (λ (j : ℕ). put t a (gather f j)) (sym (add-one k))
 
--- a padded ring fills a row, and its used places are the ring's
-pub padded-length : (l : List ℕ) → length l ≤ 32 → length (padded l) ≡ 32
-unfolding padded
-padded-length l h = simp (length-append, length-replicate) (omega arith)
-
+-- the used places of a padded ring are the ring's
 pub padded-at : (l : List ℕ) (i : ℕ) → i < length l → getD (padded l) i 0 ≡ getD l i 0
 unfolding padded
 padded-at l i h = List·getD-append l _ 0 i h

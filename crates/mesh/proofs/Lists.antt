@@ -5,7 +5,7 @@ use mathlib.Core.Bool.{Bool, true, false, cond}
 use mathlib.Core.List.{List, [], _∷_}
 use mathlib.Core.Logic.{_⊎_, inl, inr, ⊎-elim, _≢_}
 use Prim.Native.Nat.{ℕ, zero, suc, _+_, _*_, _≤_, _<_}
-use native.Mathlib.Nat.{add-zero, add-suc, mul-zero, mul-suc, le-refl, le-trans, not-suc-le-zero}
+use native.Mathlib.Nat.{add-zero, add-suc, mul-zero, mul-suc, suc-mul, le-refl, le-trans, not-suc-le-zero}
 use native.Mathlib.Decide.{le-ind}
 use native.Mathlib.Omega.{arith}
 use lib.Dec.{eqb, ltb, leb}
@@ -142,3 +142,8 @@ sum-times n [] h = sum-zero (λ q. 0) n (λ i k. refl)
 sum-times n (a ∷ l) h =
     sum-add (λ q. bit (eqb q a)) (λ q. times q l) n
     ∙ omega (arith, sum-same _ _ n (λ q k. bit-cond (eqb q a)) ∙ sum-pick a 1 n (h a (here a l)), sum-times n l (λ x m. h x (there x a l m)))
+
+-- a sum of n numbers that are at most m
+pub sum-bounded : (f : ℕ → ℕ) (m n : ℕ) → ((i : ℕ) → i < n → f i ≤ m) → sum f n ≤ n * m
+sum-bounded f m zero h = omega arith
+sum-bounded f m (suc n) h = omega (arith, sum-bounded f m n (λ i k. h i (omega arith)), h n (omega arith), suc-mul n m)

@@ -1,6 +1,6 @@
 -- Lists that are gathered row by row: where a row stands in them, and when two are the same. Assumes nothing.
 use Prim.Native.Nat.{ℕ, zero, suc, _+_, _*_, _≤_, _<_}
-use mathlib.Core.Path.{_≡_, refl, sym, ap, ap₂, _∙_}
+use mathlib.Core.Path.{_≡_, refl, sym, ap, _∙_}
 use mathlib.Core.List.{List, [], _∷_, _++_, append-assoc, append-nil}
 use mathlib.Core.Logic.{⊎-elim}
 use native.Mathlib.Nat.{add-zero, zero-add, add-suc, eq-or-lt-of-le, zero-mul, suc-mul}
@@ -8,7 +8,7 @@ use native.Mathlib.Omega.{arith}
 use lib.ListN.{length, getD, take, drop, length-append}
 use lib.Seq.{take-suc, take-length, drop-at}
 use Rattle.rings.specs.Table.{put, gather}
-use Rattle.rings.proofs.Tables.{length-gather, gather-at}
+use Rattle.rings.proofs.Tables.{length-gather, gather-at, gather-same}
 use Rattle.meshfile.specs.Blocks.{gatherFrom}
 
 module _ {A : Type 0} where
@@ -27,10 +27,6 @@ module _ {A : Type 0} where
       let (m, q) = gather-split f v n h in
       let g : gather f n ++ tail ≡ gather f v ++ (f v ++ (m ++ tail)) = ap (λ (x : List A). x ++ tail) q ∙ simp append-assoc in
       (m ++ tail, ap (drop k) g ∙ drop-at (gather f v) (f v ++ (m ++ tail)) k (sym e))
-
-  pub gather-same : (f g : ℕ → List A) (n : ℕ) → ((v : ℕ) → v < n → f v ≡ g v) → gather f n ≡ gather g n
-  gather-same f g zero h = refl
-  gather-same f g (suc n) h = ap₂ (λ (x y : List A). x ++ y) (gather-same f g n (λ v l. h v (omega arith))) (h n (omega arith))
 
   -- the first i rows, and k more
   pub gather-add : (f : ℕ → List A) (i k : ℕ) → gather f (i + k) ≡ gather f i ++ gatherFrom f i k

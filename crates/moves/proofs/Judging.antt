@@ -1,14 +1,14 @@
 -- What is judged before the first move: what each outcome of the judging function shows, and what an accepted judgement tells of the stack and the map. Assumes nothing.
-use Prim.Native.Nat.{ℕ, zero, suc, _*_, _/_, _≤_, _<_}
+use Prim.Native.Nat.{ℕ, suc, _/_, _≤_, _<_}
 use mathlib.Core.Path.{_≡_, refl, sym, ap, _∙_}
 use mathlib.Core.Bool.{true, false}
 use mathlib.Core.List.{List}
-use native.Mathlib.Nat.{suc-mul}
 use native.Mathlib.Omega.{arith}
 use lib.Dec.{ltb}
 use lib.IntN.{ℤ}
 use lib.ListN.{length, getD}
 use borrow.Author.Tests.{lt-ltb, le-ltb, ltb-false}
+use Rattle.mesh.proofs.Lists.{sum-bounded}
 use Rattle.mesh.specs.Search.{sum, first}
 use Rattle.mesh.specs.Mesh.{edges}
 use Rattle.mesh.proofs.First.{first-end}
@@ -27,10 +27,6 @@ use Rattle.refine.proofs.Judged.{counted-edges}
 use Rattle.strange.specs.Expected.{whole, strange}
 use Rattle.moves.specs.Apply.{beforeMoves}
 
-sum-most : (f : ℕ → ℕ) (m n : ℕ) → ((i : ℕ) → i < n → f i ≤ m) → sum f n ≤ n * m
-sum-most f m zero h = omega arith
-sum-most f m (suc n) h = omega (arith, sum-most f m n (λ i k. h i (omega arith)), h n (omega arith), suc-mul n m)
-
 -- ---- an accepted stack
 
 module _ {n levels : ℕ} {vs rs : List ℕ} {ps : List ℤ} (a : AcceptsStack n levels vs rs ps) where
@@ -47,7 +43,7 @@ module _ {n levels : ℕ} {vs rs : List ℕ} {ps : List ℤ} (a : AcceptsStack n
   pub whole-small : whole n levels vs rs ps ≤ 1048576
   unfolding whole stackCount levelStart
   whole-small =
-      let h = sum-most (levelCount n (edges (rows n vs rs))) 65535 (suc levels) (λ i l. a .fits i (omega arith)) in
+      let h = sum-bounded (levelCount n (edges (rows n vs rs))) 65535 (suc levels) (λ i l. a .fits i (omega arith)) in
       let l = a .high in
       omega arith
 

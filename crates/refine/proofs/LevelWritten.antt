@@ -18,7 +18,7 @@ use Rattle.mesh.proofs.PointsStayInHull.{range-is-kept}
 use Rattle.units.specs.Coordinate.{InRange}
 use Rattle.rings.specs.Table.{put, rows, valenceRows, ringRows, coordinateAt, pointRows}
 use Rattle.rings.specs.Accepts.{Room}
-use Rattle.level.proofs.Written.{gather-same}
+use Rattle.rings.proofs.Tables.{gather-same}
 use Rattle.level.specs.Level.{Levels, nextPoint, valencesUpTo, ringsUpTo, positionsUpTo}
 use Rattle.refine.specs.Stack.{stackCount}
 use Rattle.refine.specs.Accepts.{AcceptsStack}

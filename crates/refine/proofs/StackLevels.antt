@@ -22,7 +22,8 @@ use Rattle.mesh.proofs.Levels.{level-sound}
 use Rattle.mesh.proofs.Refined.{mesh-same}
 use Rattle.rings.specs.Table.{gather, put, ringOf, rows, padded, valenceRows, ringRows, coordinateAt, pointRows}
 use Rattle.rings.proofs.Rows.{rows-ring, row-length, room-row}
-use Rattle.level.proofs.Written.{padded-length, padded-at}
+use Rattle.rings.proofs.Tables.{length-padded}
+use Rattle.level.proofs.Written.{padded-at}
 use Rattle.level.proofs.NextLevel.{short-ring}
 use Rattle.refine.specs.Stack.{levelCount, levelStart, stackCount}
 use Rattle.refine.specs.Accepts.{AcceptsStack}
@@ -34,7 +35,7 @@ use Rattle.refine.proofs.LevelRows as L
 
 level-row : (M : Mesh) → Sound M → (k x : ℕ) → length (padded (level M (suc k) .ring x)) ≡ 32
 unfolding level
-level-row M S k x = padded-length (level M (suc k) .ring x) (short-ring (level M k) (level-sound M S k) x)
+level-row M S k x = length-padded (level M (suc k) .ring x) (short-ring (level M k) (level-sound M S k) x)
 
 -- ---- a row of a part is a row of the table
 
@@ -59,7 +60,7 @@ ring-place : (vs rs : List ℕ) (v i : ℕ) → i < getD vs v 0 → getD (ringOf
 unfolding ringOf
 ring-place vs rs v i h = getD-take (getD vs v 0) (drop (v * 32) rs) i 0 h ∙ getD-drop (v * 32) rs i 0
 
-mesh-again : (n : ℕ) (rings : ℕ → List ℕ) → mesh n (mesh n rings .ring) ≡ mesh n rings
+pub mesh-again : (n : ℕ) (rings : ℕ → List ℕ) → mesh n (mesh n rings .ring) ≡ mesh n rings
 mesh-again n rings = mesh-same n (mesh n rings .ring) rings (λ v h. rw (lt-ltb v n h))
 
 -- ---- the stack

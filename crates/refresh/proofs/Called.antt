@@ -8,7 +8,6 @@ use native.Mathlib.Omega.{arith}
 use lib.Dec.{ltb}
 use lib.IntN.{ℤ}
 use lib.ListN.{length, getD, drop}
-use borrow.Author.Tests.{lt-ltb}
 use Rattle.mesh.specs.Limits.{mostValence}
 use Rattle.mesh.specs.Mesh.{Mesh, mesh, edges}
 use Rattle.mesh.specs.Refine.{lowEnd, highEnd, oldRing, newRing, refine, level}
@@ -20,10 +19,10 @@ use Rattle.mesh.proofs.Refresh.{byMask-same}
 use Rattle.mesh.proofs.TouchedPoints.{touched-same}
 use Rattle.units.specs.Coordinate.{InRange}
 use Rattle.rings.specs.Table.{put, gather, ringOf, rows, coordinateAt, pointRows}
-use Rattle.level.proofs.Written.{gather-same}
+use Rattle.rings.proofs.Tables.{gather-same}
 use Rattle.refine.specs.Stack.{levelStart, stackCount, levelOf, numberIn}
 use Rattle.refine.specs.Accepts.{AcceptsStack}
-use Rattle.refine.proofs.StackLevels.{ring-part}
+use Rattle.refine.proofs.StackLevels.{ring-part, mesh-again}
 use Rattle.refresh.specs.Stack.{StackReady, TouchedMarked, refreshedAt, refreshedPositions}
 use Rattle.refresh.proofs.Renewed.{three}
 use Rattle.refresh.proofs.TouchedMarks.{vertex-of, mark-of}
@@ -33,9 +32,6 @@ use Rattle.refresh.proofs.TouchedMarks.{vertex-of, mark-of}
 rows-same : (n : ℕ) (vs rs : List ℕ) (rings : ℕ → List ℕ) → ((x : ℕ) → x < n → ringOf vs rs x ≡ rings x) → rows n vs rs ≡ mesh n rings
 unfolding rows
 rows-same n vs rs rings h = mesh-same n (ringOf vs rs) rings h
-
-mesh-again : (n : ℕ) (rings : ℕ → List ℕ) → mesh n (mesh n rings .ring) ≡ mesh n rings
-mesh-again n rings = mesh-same n (mesh n rings .ring) rings (λ v h. rw (lt-ltb v n h))
 
 level-mesh : (n : ℕ) (vs rs : List ℕ) (k : ℕ) → mesh (level (rows n vs rs) k .count) (level (rows n vs rs) k .ring) ≡ level (rows n vs rs) k
 unfolding level rows refine

@@ -18,11 +18,11 @@ use Rattle.mesh.proofs.Refined.{edge-lt}
 use Rattle.mesh.proofs.Rings.{getD-in, getD-place, place-lt}
 use Rattle.rings.specs.Table.{put, ringOf, rows, pointRows}
 use Rattle.rings.proofs.Rows.{rows-ring}
+use Rattle.rings.proofs.Tables.{gather-same}
 use Rattle.map.specs.Map.{including, NoneFrom}
 use Rattle.map.proofs.Sets.{including-here, including-else}
 use Rattle.level.specs.Level.{Ready, AllBelow}
 use Rattle.refresh.specs.NextLevel.{from, touchedNext, marksUpTo, pointsUpTo, renewed, NextUnmarked, RingMarked, AroundMarked, MarkedBy, OldJudged}
-use Rattle.level.proofs.Written.{gather-same}
 use Rattle.refresh.proofs.Renewed.{Quiet, marks-before, marks-at, marks-behind}
 use Rattle.refresh.proofs.Touched.{next-same, touched-self, touched-beside, touched-by}
 

@@ -26,22 +26,18 @@ use Rattle.mesh.proofs.Refresh.{byMask-same}
 use Rattle.units.specs.Coordinate.{InRange}
 use Rattle.rings.specs.Table.{put, gather, ringOf, rows, coordinateAt, pointRows}
 use Rattle.rings.proofs.Rows.{rows-ring}
-use Rattle.rings.proofs.Tables.{put-nothing}
+use Rattle.rings.proofs.Tables.{put-nothing, gather-same}
 use Rattle.map.specs.Map.{marked}
 use Rattle.level.specs.Level.{Levels, nextPoint}
-use Rattle.level.proofs.Written.{gather-same}
 use Rattle.refine.specs.Stack.{levelStart, stackCount}
 use Rattle.refine.proofs.Sizes.{level-count}
 use Rattle.refine.proofs.StackLevels.{start-is, levels-room, ring-part, point-part}
+use Rattle.mesh.proofs.Lists.{sum-bounded}
 use Rattle.refresh.specs.NextLevel.{from, touchedNext, renewed, marksUpTo, pointsUpTo, InMap, NextRings, NextUnmarked}
 use Rattle.refresh.specs.Stack.{StackReady, MapReady, TouchedMarked, refreshedAt, refreshedPositions}
 use Rattle.refresh.proofs.Touched.{next-same}
 use Rattle.refresh.proofs.Renewed.{marks-before, marks-at, marks-behind, three}
 use Rattle.refine.proofs.LevelRows as L
-
-sum-most : (f : ℕ → ℕ) (n : ℕ) → ((i : ℕ) → i < n → f i ≤ 65535) → sum f n ≤ n * 65535
-sum-most f zero h = omega arith
-sum-most f (suc n) h = omega (arith, sum-most f n (λ i k. h i (omega arith)), h n (omega arith))
 
 -- a point of the next level is in range where those of this one are
 mean-near : (N : Mesh) → Sound N → (x : ℕ) → x < N .count + edges N → (at : ℕ → ℤ) → ((v : ℕ) → v < N .count → InRange (at v)) → InRange (byMask (loopMask N x) at)
@@ -113,7 +109,7 @@ module _ {n e levels : ℕ} {vs rs : List ℕ} {ps₀ : List ℤ} (R : StackRead
   whole-is = start-of (suc levels)
 
   whole-small : sum size (suc levels) ≤ 327675
-  whole-small = let h = sum-most size (suc levels) (λ i l. size-most i (omega arith)) in let l = R .accepted .high in omega arith
+  whole-small = let h = sum-bounded size 65535 (suc levels) (λ i l. size-most i (omega arith)) in let l = R .accepted .high in omega arith
 
   -- a vertex of level j, in the stack
   in-stack : (j x : ℕ) → j ≤ levels → x < size j → sum size j + x < stackCount n (edges M) levels

@@ -2,17 +2,16 @@
 -- Assumes nothing.
 use Prim.Native.Nat.{ℕ, zero, suc, _+_, _-_, _≤_, _<_}
 use mathlib.Core.Path.{_≡_, refl, sym, ap, subst, _∙_}
-use mathlib.Core.Bool.{Bool, true, cond}
+use mathlib.Core.Bool.{Bool, true}
 use mathlib.Core.List.{List}
 use native.Mathlib.Omega.{arith}
 use lib.ListN.{length, getD}
-use lib.Dec.{ltb}
 use borrow.Author.Count.{below-more}
 use borrow.Author.Tests.{lt-ltb}
 use Rattle.mesh.specs.Ring.{_∈_, Distinct, place, placeBefore, next, prev, Follows, follows}
-use Rattle.mesh.specs.Mesh.{Mesh, mesh, Proper, Sound}
+use Rattle.mesh.specs.Mesh.{mesh, Sound}
 use Rattle.mesh.proofs.Places.{before-first, before-other, follows-true}
-use Rattle.mesh.proofs.Rings.{place-lt, getD-place, next-at, prev-at, next-in, next-prev, next-next-ne}
+use Rattle.mesh.proofs.Rings.{place-lt, getD-place, prev-at, next-in, next-prev, next-next-ne}
 use Rattle.mesh.proofs.RingsGoRound.{prev-of-next}
 use Rattle.mesh.proofs.Checked.{distinct-places, sound-proper}
 use Rattle.rings.specs.Table.{ringOf, rows}

@@ -12,13 +12,12 @@ use lib.Seq.{getD-set-other, getD-take, getD-drop, ext-getD}
 use Rattle.mesh.proofs.Lists.{lt-split}
 use Rattle.rings.specs.Table.{padded, ringOf}
 use Rattle.rings.specs.Verdict.{after}
-use Rattle.rings.proofs.Tables.{length-put, put-before, put-behind}
+use Rattle.rings.proofs.Tables.{length-put, put-before, put-behind, length-padded}
 use Rattle.rings.specs.declared.Verdict.{Verdict}
 use Rattle.rings.specs.declared.Verdict.the-variants.{Accepted, Refused}
 use Rattle.ring_row.specs.Places.{Editable}
 use Rattle.ring_row.specs.Edit.{Edit, valencesWith, ringsWith, valencesAfter, ringsAfter}
 use Rattle.ring_edit.specs.AnyEdit.{Call, editOf}
-use Rattle.ring_row.proofs.RowWritten.{length-padded}
 use Rattle.ring_edit.proofs.Tables.{tabled-editable}
 use Rattle.ring_edit.proofs.AcceptedEdits.{fair}
 

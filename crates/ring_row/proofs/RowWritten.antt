@@ -5,12 +5,13 @@ use mathlib.Core.Path.{_≡_, sym, ap, _∙_}
 use mathlib.Core.List.{List}
 use native.Mathlib.Numerals.{add-one}
 use native.Mathlib.Omega.{arith}
-use lib.ListN.{length, getD, take, replicate, length-append, length-replicate, getD-replicate, List·getD-append}
+use lib.ListN.{length, getD, take, replicate, getD-replicate, List·getD-append}
 use lib.Seq.{getD-take, ext-getD, length-take-le}
 use Rattle.mesh.specs.Edits.{closed, opened}
 use Rattle.rings.specs.Table.{padded}
 use Rattle.rings.proofs.Rewrite.{Written, getD-append-ge}
 use Rattle.mesh.proofs.EditPlaces.{opened-before, opened-after, opened-closed, closed-length}
+use Rattle.rings.proofs.Tables.{length-padded}
 
 -- ---- a ring with a place taken out or put in, as the loops move its entries
 
@@ -31,10 +32,6 @@ pub opened-moved : (l : List ℕ) (i x : ℕ) → i ≤ length l → (j : ℕ) �
 opened-moved l i x here j h = sym (ap (λ (k : ℕ). getD (opened l i x) k 0) (add-one j) ∙ opened-after l i x j 0 h here)
 
 -- ---- the places behind a ring
-
-pub length-padded : (r : List ℕ) → length r ≤ 32 → length (padded r) ≡ 32
-unfolding padded
-length-padded r l = simp (length-append, length-replicate) (omega arith)
 
 -- the ring of n at the front of a row
 module _ (row : List ℕ) (n : ℕ) (long : length row ≡ 32) (most : n ≤ 32) where

@@ -16,9 +16,9 @@ use Rattle.rings.specs.declared.Refusal.{Refusal}
 use Rattle.rings.specs.declared.Refusal.the-variants.{RingFull}
 use Rattle.rings.specs.declared.Verdict.the-variants.{Accepted, Refused}
 use Rattle.rings.proofs.Rows.{row-length}
+use Rattle.rings.proofs.Tables.{length-padded}
 use Rattle.ring_row.specs.Places.{Editable, openEdit}
 use Rattle.ring_row.specs.Edit.{Edit, valencesWith, ringsWith, valencesAfter, ringsAfter}
-use Rattle.ring_row.proofs.RowWritten.{length-padded}
 
 -- ---- what a call says of the tables, by its outcome
 

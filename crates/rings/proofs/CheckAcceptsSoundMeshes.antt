@@ -1,7 +1,7 @@
 -- The check accepts exactly the tables that have room for V vertices (4 to 1,024), sound rings and coordinates in the range;
 -- and where it refuses for a vertex, every earlier reason holds at no vertex, and the vertex named is the lowest at which this one holds.
 -- Assumes nothing.
-use mathlib.Core.Path.{_≡_, refl, sym, ap, _∙_}
+use mathlib.Core.Path.{_≡_, refl, ap}
 use mathlib.Core.Bool.{Bool, true, false, cond}
 use mathlib.Core.List.{List}
 use mathlib.Core.Logic.{_↔_}

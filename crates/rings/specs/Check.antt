@@ -1,6 +1,6 @@
 -- The check (sections "Ring rules" and "What comes back when we say no"): reasons 2, 1, 4, 5, 6 and 7 in this order, each asked of all vertices before the next.
 -- Assumes nothing.
-use mathlib.Core.Bool.{Bool, true, false, _||_}
+use mathlib.Core.Bool.{Bool, _||_}
 use mathlib.Core.List.{List}
 use Prim.Native.Nat.{ℕ, _*_}
 use lib.Dec.{ltb}

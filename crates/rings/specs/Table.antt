@@ -1,9 +1,8 @@
 -- The lent tables of section "Tables and numbers" and the mesh that is read out of them: v has its valence at v, its ring from 32 v on, its point from 3 v on.
 -- A table after a call is said by `put` and `gather` alone: written here, everything else as it was.
 -- Assumes nothing.
-use mathlib.Core.Bool.{Bool, true, false}
 use mathlib.Core.List.{List, [], _∷_, _++_}
-use Prim.Native.Nat.{ℕ, zero, suc, _+_, _-_, _*_, _≤_, _<_}
+use Prim.Native.Nat.{ℕ, zero, suc, _+_, _-_, _*_}
 use lib.IntN.{ℤ, pos}
 use lib.ListN.{length, getD, take, drop, replicate}
 use Rattle.mesh.specs.Limits.{mostValence, nullVertex}

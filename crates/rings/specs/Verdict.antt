@@ -1,6 +1,6 @@
 -- The order of refusals: a verdict is a chain of reasons, each before those that are judged after it.
 -- Assumes nothing.
-use mathlib.Core.Bool.{Bool, true, false, cond}
+use mathlib.Core.Bool.{Bool, cond}
 use Prim.Native.Nat.{ℕ}
 use Rattle.mesh.specs.Search.{first, some}
 use Rattle.rings.specs.declared.Refusal.{Refusal}

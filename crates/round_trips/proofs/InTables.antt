@@ -11,8 +11,7 @@ use Rattle.rings.specs.Verdict.{withAmount}
 use Rattle.rings.specs.declared.Verdict.{Verdict}
 use Rattle.rings.specs.declared.Verdict.the-variants.{Accepted, Refused}
 use Rattle.rings.specs.declared.Amount.the-variants.{Of}
-use Rattle.rings.proofs.Tables.{length-gather, gather-at}
-use Rattle.file_reading.proofs.RowsRead.{length-padded}
+use Rattle.rings.proofs.Tables.{length-gather, gather-at, length-padded}
 use Rattle.meshfile.proofs.Gathered.{gather-drop, gather-one, length-rows-below, put-front}
 
 -- an answer with a number is an accepted verdict's

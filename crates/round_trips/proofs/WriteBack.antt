@@ -16,7 +16,7 @@ use Rattle.rings.specs.Check.{badCount, shortRings, shortTables}
 use Rattle.rings.specs.declared.Refusal.the-variants.{ControlTooShort, BadCount, ImproperRing, NoRoom}
 use Rattle.rings.specs.declared.Verdict.the-variants.{Accepted}
 use Rattle.rings.specs.declared.Amount.the-variants.{Of}
-use Rattle.rings.proofs.Tables.{length-put, length-gather}
+use Rattle.rings.proofs.Tables.{length-put, length-gather, gather-same, length-padded}
 use Rattle.rings.proofs.Checks.{long-tables}
 use Rattle.rings.proofs.Verdicts.{if-accepted, then-accepted, if-clear, at-clear}
 use Rattle.meshfile.specs.Bytes.{bytesOf, bitsOf, coordinateOf, recordOf, numberAt, lengthAt, kindAt}
@@ -25,9 +25,9 @@ use Rattle.file_reading.specs.Read.{readVerdict, readAnswer, readValences, read
 use Rattle.file_writing.specs.Write.{neighbourBytes, payloadOf, rowBytes, fileOf, overMost, writeVerdict, writeAnswer, writeRoom}
 use Rattle.meshfile.proofs.Finding.{record-kind, record-length, record-fits}
 use Rattle.meshfile.proofs.Judging.{IsRow, row-is, first-after, Good, good}
-use Rattle.file_reading.proofs.RowsRead.{length-ring, length-padded}
+use Rattle.file_reading.proofs.RowsRead.{length-ring}
 use Rattle.file_writing.proofs.RowsWritten.{length-payload}
-use Rattle.meshfile.proofs.Gathered.{gather-one, gather-same, length-rows-below}
+use Rattle.meshfile.proofs.Gathered.{gather-one, length-rows-below}
 use Rattle.round_trips.proofs.Inverse.{four-lt, bits-coordinate}
 use Rattle.round_trips.proofs.InTables.{answered, in-valence, in-ring, in-point}
 use Rattle.round_trips.proofs.Parts.{Part, part-none, join, part-long, part-number}

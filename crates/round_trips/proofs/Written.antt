@@ -24,7 +24,8 @@ use Rattle.meshfile.proofs.Signed.{bits-lt, coordinate-bits}
 use Rattle.meshfile.proofs.Finding.{record-is}
 use Rattle.meshfile.proofs.Judging.{last, tail, all}
 use Rattle.file_writing.proofs.RowsWritten.{length-neighbour-bytes, length-payload, length-row, length-file, length-rows}
-use Rattle.meshfile.proofs.Gathered.{gather-split, gather-drop, gather-same, gather-all}
+use Rattle.meshfile.proofs.Gathered.{gather-split, gather-drop, gather-all}
+use Rattle.rings.proofs.Tables.{gather-same}
 use Rattle.round_trips.proofs.Inverse.{number-bytes-two, number-bytes-four, number-from, number-here}
 
 -- what a file can hold: at most 65,535 rows of at most 32 neighbours, in 16 bits each, with coordinates in 32 bits

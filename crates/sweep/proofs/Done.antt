@@ -5,24 +5,23 @@ use mathlib.Core.List.{List, [], _∷_}
 use native.Mathlib.Omega.{arith}
 use lib.IntN.{ℤ, pos}
 use lib.ListN.{length, getD, set}
-use Rattle.mesh.specs.Ring.{next}
 use Rattle.mesh.specs.Mesh.{Mesh, Sound, edges}
 use Rattle.mesh.specs.Numbering.{start}
-use Rattle.mesh.specs.Refine.{up, mid, oldRing, refine, level}
+use Rattle.mesh.specs.Refine.{up, mid, oldRing, refine}
 use Rattle.mesh.specs.Mask.{Mask}
 use Rattle.mesh.specs.Loop.{vertexMask, loopMask}
 use Rattle.mesh.proofs.Refined.{old-valence}
 use Rattle.units.specs.Coordinate.{InRange}
 use Rattle.units.specs.declared.Point.{Point}
 use Rattle.rings.specs.Table.{put, gather, ringOf, rows, padded, valenceRows, ringRows, coordinateAt, pointRows}
-use Rattle.rings.proofs.Tables.{put-nothing, length-put, put-before, put-within, length-gather, gather-at}
+use Rattle.rings.proofs.Tables.{put-nothing, length-put, put-before, put-within, length-gather, gather-at, gather-same}
 use Rattle.rings.proofs.Rows.{rows-ring}
 use Rattle.level.specs.Level.{Levels, HasOld, UpTo, startOf, pointBy, coordinates, nextPoint, valencesUpTo, ringsUpTo, positionsUpTo}
 use Rattle.level.proofs.Blocks.{put-one}
 use Rattle.level.proofs.Kept.{rows-kept, ring-kept}
 use Rattle.level.proofs.Mids.{ready-length}
 use Rattle.level.proofs.OldRings.{old-entry}
-use Rattle.level.proofs.Written.{put-over, gather-same, gather-step, padded-at}
+use Rattle.level.proofs.Written.{put-over, gather-step, padded-at}
 use Rattle.level.proofs.NextLevel.{old-ring-is, old-mask, next-same, length-valences, wide-ring, length-rings, length-points}
 
 three : {x y z x′ y′ z′ : ℤ} → x ≡ x′ → y ≡ y′ → z ≡ z′ → x ∷ y ∷ z ∷ [] ≡ x′ ∷ y′ ∷ z′ ∷ []

@@ -6,7 +6,7 @@ use mathlib.Core.Logic.{_⊎_}
 use native.Mathlib.Omega.{arith}
 use lib.IntN.{ℤ, pos}
 use lib.ListN.{length, getD, take, drop, set, replicate}
-use Rattle.mesh.specs.Mesh.{Mesh, edges}
+use Rattle.mesh.specs.Mesh.{edges}
 use Rattle.mesh.specs.Loop.{edgeMask}
 use Rattle.mesh.specs.Refine.{mid}
 use Rattle.mesh.specs.Ring.{next, prev}

@@ -2,7 +2,7 @@
 use Prim.Native.Nat.{ℕ, zero, suc, _+_, _-_, _*_, _/_, _%_, _≤_, _<_}
 use mathlib.Core.Path.{_≡_, refl, sym, ap, ap₂, subst, _∙_}
 use mathlib.Core.List.{List, [], _∷_, _++_}
-use mathlib.Core.Logic.{_⊎_, inl, inr, ⊎-elim}
+use mathlib.Core.Logic.{_⊎_, ⊎-elim}
 use native.Mathlib.Nat.{div-add-mod', mod-lt}
 use native.Mathlib.Omega.{arith}
 use lib.Dec.{lit<}
@@ -24,7 +24,7 @@ use Rattle.level.specs.Level.{Levels, Near, pointBy, coordinates, nextPoint, po
 use Rattle.level.proofs.Mids.{ready-length, q-in}
 use Rattle.level.proofs.NextLevel.{length-points, new-range, new-mask, next-same}
 use Rattle.sweep.specs.Nearer.{Nearer, Points, PlacesOfBelow, positionsNext, numberAt}
-use Rattle.sweep.proofs.Nearing.{nearer-then, nearer-put, right-put, reached}
+use Rattle.sweep.proofs.Nearing.{nearer-then, reached}
 use Rattle.sweep.proofs.Targets.{put-agree}
 
 three-at : (f : ℕ → ℕ → ℤ) (x axis : ℕ) → axis < 3 → getD (f 0 x ∷ f 1 x ∷ f 2 x ∷ []) axis (pos 0) ≡ f axis x

@@ -22,7 +22,7 @@ use Rattle.level.proofs.OldRings.{old-length, old-end}
 use Rattle.level.proofs.NextLevel.{start-more, length-valences}
 use Rattle.sweep.proofs.Done.{Done, done-rows, done-again}
 use Rattle.sweep.specs.Nearer.{Nearer, ringsNext, positionsNext}
-use Rattle.sweep.proofs.Targets.{target-old, held-row, kept-ready, kept-rows, kept-old}
+use Rattle.sweep.proofs.Targets.{target-old, held-row, kept-ready, kept-rows}
 use Rattle.sweep.proofs.PointTargets.{kept-near}
 use Rattle.sweep.proofs.Steps.{below-over, length-over}
 

@@ -1,10 +1,6 @@
 -- `check` meets its contract. Assumes nothing.
-use mathlib.Core.Path.{_≡_, sym, ap, _∙_}
+use mathlib.Core.Path.{_≡_, sym, _∙_}
 use borrow.Author.Needs.{needs}
-use Rattle.rings.specs.Check.{checkVerdict, checkAnswer}
-use Rattle.rings.specs.Verdict.{withCounts}
-use Rattle.rings.specs.declared.Verdict.{Verdict}
-use Rattle.rings.specs.declared.Verdict.the-variants.{Accepted, Refused}
 use Rattle.rings.proofs.Rows.{fit-valences}
 use Rattle.rings.proofs.Accepted.{accepted-only, accepted-fit, check-counts, check-refused}
 use Rattle.mesh_check.proofs.check.Statement.{statement}

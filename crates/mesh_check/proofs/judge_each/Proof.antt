@@ -1,15 +1,14 @@
 -- `judge_each` meets its contract. Assumes nothing.
-use Prim.Native.Nat.{ℕ, _*_, _≤_}
+use Prim.Native.Nat.{ℕ}
 use mathlib.Core.Path.{_≡_, sym, _∙_}
 use mathlib.Core.Bool.{false}
 use mathlib.Core.List.{List}
 use lib.IntN.{ℤ}
-use lib.ListN.{length}
 use Rattle.mesh.specs.Tests.{oneSided, openFaced}
 use Rattle.rings.specs.Table.{rows}
-use Rattle.rings.specs.Verdict.{refuseIf, refuseAt}
+use Rattle.rings.specs.Verdict.{refuseAt}
 use Rattle.rings.specs.Check.{badCount, shortTables, unfitRow, beyondAt, checkVerdict}
-use Rattle.rings.specs.Accepts.{Room, Fit}
+use Rattle.rings.specs.Accepts.{Fit}
 use Rattle.rings.specs.declared.Refusal.the-variants.{ImproperRing, OneSided, OpenFace, TooFar}
 use Rattle.rings.specs.declared.Verdict.{Verdict}
 use Rattle.rings.specs.declared.Verdict.the-variants.{Accepted}

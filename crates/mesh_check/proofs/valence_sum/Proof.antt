@@ -1,9 +1,8 @@
 -- `valence_sum` meets its contract. Assumes nothing.
-use Prim.Native.Nat.{ℕ, suc, _+_, _≤_, _-_, _*_}
+use Prim.Native.Nat.{ℕ, _+_, _≤_, _-_, _*_}
 use mathlib.Core.Path.{_≡_, refl, ap, _∙_}
 use mathlib.Core.List.{List}
 use lib.ListN.{getD}
-use native.Mathlib.Nat.{le-antisymm}
 use Rattle.mesh.specs.Search.{sum}
 use native.Mathlib.Numerals.{add-one}
 use native.Mathlib.Omega.{arith}

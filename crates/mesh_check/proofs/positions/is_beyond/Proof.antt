@@ -1,7 +1,6 @@
 -- `is_beyond` meets its contract. Assumes nothing.
 use mir.Facts.{toZ-ofZ}
 use Rattle.rings.proofs.Checks.{beyond-low, beyond-rest}
-use borrow.Author.Needs.{needs}
 use Rattle.mesh_check.proofs.positions.is_beyond.Statement.{statement}
 use Rattle.mesh_check.proofs.positions.is_beyond.Tie as tie
 

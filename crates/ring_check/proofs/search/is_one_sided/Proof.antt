@@ -1,9 +1,8 @@
 -- `is_one_sided` meets its contract. Assumes nothing.
 use Prim.Native.Nat.{_≤_, _-_}
 use mathlib.Core.Path.{sym, _∙_}
-use lib.ListN.{getD}
 use Rattle.mesh.specs.Tests.{lacksAt, oneSided}
-use Rattle.mesh.proofs.First.{Clear, clear-none, clear-more, some-is, some-end}
+use Rattle.mesh.proofs.First.{Clear, clear-none, clear-more}
 use Rattle.rings.specs.Table.{rows}
 use Rattle.rings.proofs.Rows.{fit-most, row-some-is, row-some-end}
 use native.Mathlib.Omega.{arith}

@@ -2,7 +2,7 @@
 use Prim.Native.Nat.{_≤_, _-_}
 use lib.ListN.{length}
 use native.Mathlib.Omega.{arith}
-use borrow.Author.Tests.{eq-eqb, ne-eqb}
+use borrow.Author.Tests.{ne-eqb}
 use Rattle.mesh.proofs.Places.{holds, place-is, place-end}
 use Rattle.mesh.proofs.First.{Clear, clear-none, clear-more}
 use borrow.Author.Needs.{needs}

@@ -2,7 +2,6 @@
 use Prim.Native.Nat.{_-_, _≤_}
 use mathlib.Core.Path.{_≡_, subst}
 use Prim.Native.Nat.{ℕ}
-use borrow.Author.Needs.{needs}
 use native.Mathlib.Omega.{arith}
 use Rattle.sweep.specs.Nearer.{Halves, PlacesBelow}
 use Rattle.sweep.proofs.Targets.{kept-ready, kept-old}

@@ -1,6 +1,6 @@
 -- `middle_of` meets its contract. Assumes nothing.
-use Prim.Native.Nat.{ℕ, _+_, _*_, _<_}
-use mathlib.Core.Path.{_≡_, sym, ap, subst, _∙_}
+use Prim.Native.Nat.{ℕ, _<_}
+use mathlib.Core.Path.{sym, ap, subst, _∙_}
 use mathlib.Core.List.{List}
 use lib.ListN.{getD}
 use borrow.Author.Needs.{needs}

@@ -1,9 +1,6 @@
 -- `write_level` meets its contract. Assumes nothing.
-use Prim.Native.Nat.{_+_, _≤_}
-use mathlib.Core.Path.{_≡_, sym, ap, _∙_}
+use mathlib.Core.Path.{_∙_}
 use native.Mathlib.Omega.{arith}
-use Rattle.mesh.specs.Mesh.{edges}
-use Rattle.rings.specs.Table.{rows}
 use Rattle.sweep.proofs.Done.{Done, done-levels, done-up-to, done-valence-count, done-ring-count, done-point-count}
 use Rattle.sweep.proofs.Whole.{valences-whole, rings-again, positions-again}
 use Rattle.sweep.proofs.write.write_level.Statement.{statement}
