@@ -24,7 +24,7 @@ use Rattle.refine.specs.Stack.{levelStart, stackCount, levelOf, numberIn}
 use Rattle.refine.specs.Accepts.{AcceptsStack}
 use Rattle.refine.proofs.StackLevels.{ring-part, mesh-again}
 use Rattle.refresh.specs.Stack.{StackReady, TouchedMarked, refreshedAt, refreshedPositions}
-use Rattle.refresh.proofs.Renewed.{three}
+use Rattle.touched.proofs.Renewed.{three}
 use Rattle.refresh.proofs.TouchedMarks.{vertex-of, mark-of}
 
 -- ---- a stack that is ready

@@ -33,10 +33,10 @@ use Rattle.refine.specs.Stack.{levelStart, stackCount}
 use Rattle.refine.proofs.Sizes.{level-count}
 use Rattle.refine.proofs.StackLevels.{start-is, levels-room, ring-part, point-part}
 use Rattle.mesh.proofs.Lists.{sum-bounded}
-use Rattle.refresh.specs.NextLevel.{from, touchedNext, renewed, marksUpTo, pointsUpTo, InMap, NextRings, NextUnmarked}
+use Rattle.touched.specs.NextLevel.{from, touchedNext, renewed, marksUpTo, pointsUpTo, InMap, NextRings, NextUnmarked}
 use Rattle.refresh.specs.Stack.{StackReady, MapReady, TouchedMarked, refreshedAt, refreshedPositions}
-use Rattle.refresh.proofs.Touched.{next-same}
-use Rattle.refresh.proofs.Renewed.{marks-before, marks-at, marks-behind, three}
+use Rattle.touched.proofs.Touched.{next-same}
+use Rattle.touched.proofs.Renewed.{marks-before, marks-at, marks-behind, three}
 use Rattle.refine.proofs.LevelRows as L
 
 -- a point of the next level is in range where those of this one are

@@ -1,3 +1,2 @@
--- What a refresh relies on and leaves: one level, and all of them.
-pub mod NextLevel
+-- What a refresh of all levels relies on and leaves.
 pub mod Stack

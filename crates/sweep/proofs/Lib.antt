@@ -1,9 +1,3 @@
--- Laws on tables with the next level's first vertices, and on tables that come nearer to the whole next level.
+-- Laws on tables with the next level's first vertices, and on the whole next level.
 pub mod Done
-pub mod Nearing
-pub mod Targets
-pub mod PointTargets
-pub mod HalfRows
-pub mod Steps
-pub mod OneEdge
 pub mod Whole

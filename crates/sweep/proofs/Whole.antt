@@ -21,10 +21,10 @@ use Rattle.level.proofs.Kept.{behind-ring}
 use Rattle.level.proofs.OldRings.{old-length, old-end}
 use Rattle.level.proofs.NextLevel.{start-more, length-valences}
 use Rattle.sweep.proofs.Done.{Done, done-rows, done-again}
-use Rattle.sweep.specs.Nearer.{Nearer, ringsNext, positionsNext}
-use Rattle.sweep.proofs.Targets.{target-old, held-row, kept-ready, kept-rows}
-use Rattle.sweep.proofs.PointTargets.{kept-near}
-use Rattle.sweep.proofs.Steps.{below-over, length-over}
+use Rattle.halves.specs.Nearer.{Nearer, ringsNext, positionsNext}
+use Rattle.halves.proofs.Targets.{target-old, held-row, kept-ready, kept-rows}
+use Rattle.halves.proofs.PointTargets.{kept-near}
+use Rattle.halves.proofs.Steps.{below-over, length-over}
 
 -- ---- numbers
 

@@ -8,12 +8,12 @@ ghost use Rattle.mesh.specs.Loop.{vertexMask};
 ghost use Rattle.mesh.specs.Refine.{oldRing};
 ghost use Rattle.rings.specs.Table.{put, ringOf, rows, padded};
 ghost use Rattle.level.specs.Level.{Levels, UpTo, HasOld, startOf, pointBy, coordinates, valencesUpTo, ringsUpTo, positionsUpTo};
-ghost use Rattle.sweep.specs.Nearer.{Halves, Points, PlacesBelow, PlacesOfBelow};
-use super::edges::write_halves;
-use super::edges::write_points;
+ghost use Rattle.halves.specs.Nearer.{Halves, Points, PlacesBelow, PlacesOfBelow};
 use super::numbers::count_below;
-use super::vertices::row_of;
 use super::vertices::write_old_ring;
+use halves::edges::write_halves;
+use halves::edges::write_points;
+use halves::rows::row_of;
 use level::points::ring_point;
 use level::points::set_point;
 

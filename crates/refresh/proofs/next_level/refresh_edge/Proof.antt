@@ -7,9 +7,9 @@ use Rattle.mesh.specs.Mesh.{edges}
 use Rattle.mesh.specs.Loop.{loopMask}
 use Rattle.rings.specs.Table.{rows}
 use Rattle.level.specs.Level.{edgePointBy}
-use Rattle.refresh.specs.NextLevel.{touchedNext}
-use Rattle.refresh.proofs.Touched.{in-map, edge-range, edge-mask-is}
-use Rattle.refresh.proofs.Renewed.{marks-yes, marks-no, points-yes, points-no}
+use Rattle.touched.specs.NextLevel.{touchedNext}
+use Rattle.touched.proofs.Touched.{in-map, edge-range, edge-mask-is}
+use Rattle.touched.proofs.Renewed.{marks-yes, marks-no, points-yes, points-no}
 use Rattle.refresh.proofs.next_level.refresh_edge.Statement.{statement}
 use Rattle.refresh.proofs.next_level.refresh_edge.Tie as tie
 

@@ -4,7 +4,7 @@ use native.Mathlib.Omega.{arith}
 use lib.ListN.{getD}
 use borrow.Author.Needs.{needs}
 use Rattle.level.proofs.Mids.{ready-row}
-use Rattle.refresh.proofs.Ends.{EdgeOf, ends-read, sought}
+use Rattle.touched.proofs.Ends.{EdgeOf, ends-read, sought}
 use Rattle.refresh.proofs.next_level.refresh_new.Statement.{statement}
 use Rattle.refresh.proofs.next_level.refresh_new.Tie as tie
 

@@ -3,9 +3,9 @@ use Prim.Native.Nat.{_-_, _≤_}
 use mathlib.Core.Path.{_≡_, _∙_}
 use native.Mathlib.Omega.{arith}
 use Rattle.rings.specs.Table.{rows}
-use Rattle.refresh.proofs.Touched.{in-map, in-map-long}
-use Rattle.refresh.proofs.Renewed.{Refreshed, refreshed-none, refreshed-more, refreshed-skip, refreshed-long, levels-kept, old-marked}
-use Rattle.refresh.proofs.Judging.{judged-quiet, judged-marks, judged-points}
+use Rattle.touched.proofs.Touched.{in-map, in-map-long}
+use Rattle.touched.proofs.Renewed.{Refreshed, refreshed-none, refreshed-more, refreshed-skip, refreshed-long, levels-kept, old-marked}
+use Rattle.touched.proofs.Judging.{judged-quiet, judged-marks, judged-points}
 use Rattle.refresh.proofs.next_level.refresh_next.Statement.{statement}
 use Rattle.refresh.proofs.next_level.refresh_next.Tie as tie
 

@@ -6,7 +6,7 @@ use Rattle.mesh.specs.Loop.{vertexMask}
 use Rattle.mesh.proofs.LoopMasks.{old-mask}
 use Rattle.rings.specs.Table.{rows}
 use Rattle.rings.proofs.Rows.{rows-ring}
-use Rattle.refresh.proofs.Renewed.{points-yes, points-no}
+use Rattle.touched.proofs.Renewed.{points-yes, points-no}
 use Rattle.refresh.proofs.next_level.refresh_old.Statement.{statement}
 use Rattle.refresh.proofs.next_level.refresh_old.Tie as tie
 

@@ -1,7 +1,7 @@
 -- `refresh_vertex` meets its contract. Assumes nothing.
 use borrow.Author.Needs.{needs}
 use Rattle.rings.specs.Table.{rows}
-use Rattle.refresh.proofs.Renewed.{with-same}
+use Rattle.touched.proofs.Renewed.{with-same}
 use Rattle.refresh.proofs.next_level.refresh_vertex.Statement.{statement}
 use Rattle.refresh.proofs.next_level.refresh_vertex.Tie as tie
 

@@ -5,7 +5,7 @@ use mathlib.Core.Logic.{⊎-elim}
 use lib.ListN.{length, take}
 use lib.Seq.{take-all}
 use Rattle.mesh.specs.Numbering.{below}
-use Rattle.sweep.proofs.Steps.{below-more, below-skip}
+use Rattle.halves.proofs.Steps.{below-more, below-skip}
 use borrow.Author.Needs.{needs}
 use native.Mathlib.Omega.{arith}
 use Rattle.sweep.proofs.numbers.count_below.Statement.{statement}

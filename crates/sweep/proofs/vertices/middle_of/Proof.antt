@@ -7,7 +7,7 @@ use borrow.Author.Needs.{needs}
 use native.Mathlib.Omega.{arith}
 use Rattle.mesh.specs.Ring.{_∈_, place}
 use Rattle.level.proofs.Mids.{ready-row, ready-place, neighbour-lt, counted-small, p-there, back-place, copied-mid}
-use Rattle.sweep.proofs.OneEdge.{row-is-ring}
+use Rattle.halves.proofs.OneEdge.{row-is-ring}
 use Rattle.sweep.proofs.Whole.{numbered}
 use Rattle.sweep.proofs.vertices.middle_of.Statement.{statement}
 use Rattle.sweep.proofs.vertices.middle_of.Tie as tie

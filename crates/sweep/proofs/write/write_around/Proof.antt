@@ -3,7 +3,7 @@ use mathlib.Core.Path.{_≡_, refl, sym}
 use lib.ListN.{getD}
 use borrow.Author.Needs.{needs}
 use native.Mathlib.Omega.{arith}
-use Rattle.sweep.proofs.Steps.{halves-at, points-at}
+use Rattle.halves.proofs.Steps.{halves-at, points-at}
 use Rattle.sweep.proofs.write.write_around.Statement.{statement}
 use Rattle.sweep.proofs.write.write_around.Tie as tie
 

@@ -2,11 +2,11 @@
 use Prim.Native.Nat.{ℕ, _-_, _≤_}
 use mathlib.Core.Path.{_≡_, subst}
 use native.Mathlib.Omega.{arith}
-use Rattle.sweep.specs.Nearer.{Halves, Points, PlacesOfBelow, ringsNext, positionsNext}
-use Rattle.sweep.proofs.Targets.{kept-rows, kept-ring, kept-old}
-use Rattle.sweep.proofs.PointTargets.{points-join, positions-reached}
-use Rattle.sweep.proofs.HalfRows.{halves-join, rings-reached}
-use Rattle.sweep.proofs.Steps.{halves-none, points-none, no-vertex, vertex-more}
+use Rattle.halves.specs.Nearer.{Halves, Points, PlacesOfBelow, ringsNext, positionsNext}
+use Rattle.halves.proofs.Targets.{kept-rows, kept-ring, kept-old}
+use Rattle.halves.proofs.PointTargets.{points-join, positions-reached}
+use Rattle.halves.proofs.HalfRows.{halves-join, rings-reached}
+use Rattle.halves.proofs.Steps.{halves-none, points-none, no-vertex, vertex-more}
 use Rattle.sweep.proofs.Whole.{held-old, kept-both}
 use Rattle.sweep.proofs.write.write_new.Statement.{statement}
 use Rattle.sweep.proofs.write.write_new.Tie as tie

@@ -12,7 +12,7 @@ use Rattle.level.specs.Level.{startOf, pointBy, coordinates}
 use Rattle.level.proofs.NextLevel.{start-most}
 use Rattle.sweep.proofs.Done.{spot}
 use Rattle.level.proofs.PointSums.{ring-all-below, ready-least}
-use Rattle.sweep.proofs.OneEdge.{row-is-ring}
+use Rattle.halves.proofs.OneEdge.{row-is-ring}
 use Rattle.sweep.proofs.Whole.{next-start, low-is}
 use Rattle.sweep.proofs.write.write_vertex.Statement.{statement}
 use Rattle.sweep.proofs.write.write_vertex.Tie as tie

@@ -1,0 +1,124 @@
+// What a vertex decides of the new vertices around it: half of each one's ring, and the points of
+// those on its edges to greater neighbours. The caller hands over the vertex's valence n, so that a
+// call with a number is a copy for it; the table of valences is there for the contracts alone.
+ghost use mathlib.Core.Path.{_≡_};
+ghost use Prim.Native.Nat.{_+_, _*_, _≤_, _<_};
+ghost use lib.ListN.{length, getD, set, replicate};
+ghost use Rattle.rings.specs.Table.{put};
+ghost use Rattle.level.specs.Level.{Ready, Levels, HasOld};
+ghost use Rattle.halves.specs.Nearer.{Halves, Points, OnePlace, PlacesBelow};
+use super::rows::row_of;
+use super::rows::write_unused;
+use level::points::edge_point_at;
+use level::points::set_point;
+use rings::MOST_VALENCE;
+use rings::ring::place_after;
+use rings::ring::place_before;
+
+// Writes the half of a new ring that lies around its lesser end p, and the unused places.
+fn write_low(rings: &mut [u16], row: usize, p: u16, before: u16, after: u16)
+    requires { ⌜ row ≤ 1048576 ⌝ }
+    requires { ⌜ row * 32 + 32 ≤ length (now rings) ⌝ }
+    ensures { λ _. ⌜ now (rings .exit) ≡ put (set (set (set (now (rings .entry)) (row * 32) p) (row * 32 + 1) before) (row * 32 + 5) after) (row * 32 + 6) (replicate 26 65535) ⌝ }
+{
+    let a = row * MOST_VALENCE;
+    rings[a] = p;
+    rings[a + 1] = before;
+    rings[a + 5] = after;
+    write_unused(rings, row, 6);
+}
+
+// Writes the half of a new ring that lies around its greater end p.
+fn write_high(rings: &mut [u16], row: usize, p: u16, before: u16, after: u16)
+    requires { ⌜ row ≤ 1048576 ⌝ }
+    requires { ⌜ row * 32 + 32 ≤ length (now rings) ⌝ }
+    ensures { λ _. ⌜ now (rings .exit) ≡ set (set (set (now (rings .entry)) (row * 32 + 3) p) (row * 32 + 4) before) (row * 32 + 2) after ⌝ }
+{
+    let a = row * MOST_VALENCE;
+    rings[a + 3] = p;
+    rings[a + 4] = before;
+    rings[a + 2] = after;
+}
+
+// Writes p's half of the ring of the new vertex at place k of p, which has n places.
+fn write_half(valences: &[u16], rings: &mut [u16], count: usize, p: usize, n: usize, k: usize)
+    requires { ⌜ Ready count (now valences) (now rings) ⌝ }
+    requires { ⌜ HasOld count (now valences) (now rings) count ⌝ }
+    requires { ⌜ p < count ⌝ }
+    requires { ⌜ n ≡ getD (now valences) p 0 ⌝ }
+    requires { ⌜ k < n ⌝ }
+    ensures { λ _. ⌜ Halves count (now (valences .entry)) (now (rings .entry)) (now (rings .exit)) (OnePlace p k) ⌝ }
+{
+    let a = (count + p) * MOST_VALENCE;
+    let x = rings[a + k] as usize;
+    let before = rings[a + place_before(n, k)];
+    let after = rings[a + place_after(n, k)];
+    if p < rings[p * MOST_VALENCE + k] as usize {
+        write_low(rings, count + x, p as u16, before, after);
+        return;
+    }
+    write_high(rings, count + x, p as u16, before, after);
+}
+
+// Writes p's half of the rings of all new vertices around p, which has n places.
+pub fn write_halves(valences: &[u16], rings: &mut [u16], count: usize, p: usize, n: usize)
+    requires { ⌜ Ready count (now valences) (now rings) ⌝ }
+    requires { ⌜ HasOld count (now valences) (now rings) count ⌝ }
+    requires { ⌜ p < count ⌝ }
+    requires { ⌜ n ≡ getD (now valences) p 0 ⌝ }
+    ensures { λ _. ⌜ Halves count (now (valences .entry)) (now (rings .entry)) (now (rings .exit)) (PlacesBelow p n) ⌝ }
+{
+    let mut k = 0;
+    while k < n {
+        write_half(valences, rings, count, p, n, k);
+        k += 1;
+    }
+}
+
+// Writes the point of the new vertex at place k of p, which has n places, where that edge goes up.
+fn write_point(
+    valences: &[u16],
+    rings: &[u16],
+    positions: &mut [i32],
+    count: usize,
+    p: usize,
+    n: usize,
+    k: usize,
+)
+    requires { ⌜ Levels count (now valences) (now rings) (now positions) ⌝ }
+    requires { ⌜ HasOld count (now valences) (now rings) count ⌝ }
+    requires { ⌜ p < count ⌝ }
+    requires { ⌜ n ≡ getD (now valences) p 0 ⌝ }
+    requires { ⌜ k < n ⌝ }
+    ensures { λ _. ⌜ Points count (now (valences .entry)) (now (rings .entry)) (now (positions .entry)) (now (positions .exit)) (OnePlace p k) ⌝ }
+{
+    let ring = row_of(rings, p, n);
+    if ring[k] as usize <= p {
+        return;
+    }
+    let x = rings[(count + p) * MOST_VALENCE + k] as usize;
+    let point = edge_point_at(ring, positions, count, p, k);
+    set_point(positions, count + x, point);
+}
+
+// Writes the points of the new vertices of p's edges to greater neighbours; p has n places.
+pub fn write_points(
+    valences: &[u16],
+    rings: &[u16],
+    positions: &mut [i32],
+    count: usize,
+    p: usize,
+    n: usize,
+)
+    requires { ⌜ Levels count (now valences) (now rings) (now positions) ⌝ }
+    requires { ⌜ HasOld count (now valences) (now rings) count ⌝ }
+    requires { ⌜ p < count ⌝ }
+    requires { ⌜ n ≡ getD (now valences) p 0 ⌝ }
+    ensures { λ _. ⌜ Points count (now (valences .entry)) (now (rings .entry)) (now (positions .entry)) (now (positions .exit)) (PlacesBelow p n) ⌝ }
+{
+    let mut k = 0;
+    while k < n {
+        write_point(valences, rings, positions, count, p, n, k);
+        k += 1;
+    }
+}
