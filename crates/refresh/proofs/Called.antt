@@ -1,52 +1,31 @@
 -- For a caller of the refresh: how a stack is ready, and the outcome said of any set that names the same control vertices and of what the upper levels held before
 -- the control points were moved. Assumes nothing.
-use Prim.Native.Nat.{ℕ, zero, suc, _+_, _*_, _≤_, _<_}
+use Prim.Native.Nat.{ℕ, zero, suc, _+_, _*_, _<_}
 use mathlib.Core.Path.{_≡_, refl, ap, ap₂, _∙_}
 use mathlib.Core.Bool.{Bool, cond}
 use mathlib.Core.List.{List}
 use native.Mathlib.Omega.{arith}
-use lib.Dec.{ltb}
 use lib.IntN.{ℤ}
-use lib.ListN.{length, getD, drop}
-use Rattle.mesh.specs.Limits.{mostValence}
-use Rattle.mesh.specs.Mesh.{Mesh, mesh, edges}
-use Rattle.mesh.specs.Refine.{lowEnd, highEnd, oldRing, newRing, refine, level}
+use lib.ListN.{length}
+use Rattle.mesh.specs.Mesh.{edges}
+use Rattle.mesh.specs.Refine.{level}
 use Rattle.mesh.specs.Mask.{Steps, Grounded, touched, refreshed}
 use Rattle.mesh.specs.Loop.{loop}
 use Rattle.mesh.proofs.Levels.{loop-grounded}
-use Rattle.mesh.proofs.Refined.{mesh-same}
 use Rattle.mesh.proofs.Refresh.{byMask-same}
 use Rattle.mesh.proofs.TouchedPoints.{touched-same}
 use Rattle.units.specs.Coordinate.{InRange}
-use Rattle.rings.specs.Table.{put, gather, ringOf, rows, coordinateAt, pointRows}
+use Rattle.rings.specs.Table.{put, gather, rows, coordinateAt, pointRows}
 use Rattle.rings.proofs.Tables.{gather-same}
 use Rattle.refine.specs.Stack.{levelStart, stackCount, levelOf, numberIn}
 use Rattle.refine.specs.Accepts.{AcceptsStack}
-use Rattle.refine.proofs.StackLevels.{ring-part, mesh-again}
-use Rattle.refresh.specs.Stack.{StackReady, TouchedMarked, refreshedAt, refreshedPositions}
+use Rattle.refresh.specs.Stack.{TouchedMarked, refreshedAt, refreshedPositions}
 use Rattle.touched.proofs.Renewed.{three}
 use Rattle.refresh.proofs.TouchedMarks.{vertex-of, mark-of}
 
 -- ---- a stack that is ready
 
-rows-same : (n : ℕ) (vs rs : List ℕ) (rings : ℕ → List ℕ) → ((x : ℕ) → x < n → ringOf vs rs x ≡ rings x) → rows n vs rs ≡ mesh n rings
-unfolding rows
-rows-same n vs rs rings h = mesh-same n (ringOf vs rs) rings h
-
-level-mesh : (n : ℕ) (vs rs : List ℕ) (k : ℕ) → mesh (level (rows n vs rs) k .count) (level (rows n vs rs) k .ring) ≡ level (rows n vs rs) k
-unfolding level rows refine
-level-mesh n vs rs zero = mesh-again n (ringOf vs rs)
-level-mesh n vs rs (suc k) =
-    let M : Mesh = level (rows n vs rs) k in
-    mesh-again (M .count + edges M) (λ x. cond (ltb x (M .count)) (oldRing M x) (newRing M (lowEnd M x) (highEnd M x)))
-
 module _ {n levels : ℕ} {vs rs : List ℕ} {ps : List ℤ} (a : AcceptsStack n levels vs rs ps) where
-  abbrev M : Mesh
-  M = rows n vs rs
-
-  abbrev size : ℕ → ℕ
-  size k = level M k .count
-
   -- an accepted stack with other positions, of which the control points are in range, is accepted
   pub accepted-moved : (ps′ : List ℤ) → length ps′ ≡ length ps → ((v : ℕ) → v < n → (axis : ℕ) → axis < 3 → InRange (coordinateAt ps′ axis v)) → AcceptsStack n levels vs rs ps′
   accepted-moved ps′ e near =
@@ -59,16 +38,6 @@ module _ {n levels : ℕ} {vs rs : List ℕ} {ps : List ℤ} (a : AcceptsStack n
         room = a .room;
         points = rw e (a .points);
       }
-
-  -- it is ready where each row is the one that refinement gives
-  pub ready-by-rows : (e : ℕ) → e ≡ edges M
-      → ((j : ℕ) → j < stackCount n (edges M) levels → getD vs j 0 ≤ mostValence)
-      → ((k x : ℕ) → k ≤ levels → x < size k → ringOf vs rs (levelStart n (edges M) k + x) ≡ level M k .ring x)
-      → ((j : ℕ) → j < stackCount n (edges M) levels → (axis : ℕ) → axis < 3 → InRange (coordinateAt ps axis j)) → StackReady n e levels vs rs ps
-  ready-by-rows e c most rings near = record { accepted = a; counted = c; most = most; refined = part; near = near }
-    where
-      part : (k : ℕ) → k ≤ levels → rows (size k) (drop (levelStart n (edges M) k) vs) (drop (levelStart n (edges M) k * 32) rs) ≡ level M k
-      part k l = rows-same (size k) _ _ (level M k .ring) (λ x h. ring-part vs rs (levelStart n (edges M) k) x ∙ rings k x l h) ∙ level-mesh n vs rs k
 
 -- ---- what a refresh depends on: the named control vertices, the control points, and what is held above level 0
 
