@@ -11,7 +11,7 @@ use Rattle.rings.specs.Accepts.{HasRow}
 use Rattle.rings.proofs.Rows.{rows-ring}
 use Rattle.level.specs.Level.{Ready}
 use Rattle.level.proofs.Mids.{ready-length}
-use Rattle.refine.proofs.LevelRows.{part-is}
+use Rattle.rings.proofs.LevelRows.{part-is}
 use Rattle.agreement.specs.Agreement.{RowAgrees, RowsAgree}
 
 pub rows-none : {n end : ℕ} {vs rs : List ℕ} → RowsAgree n end 0 vs rs

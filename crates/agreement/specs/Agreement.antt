@@ -7,6 +7,7 @@ use mathlib.Core.List.{List}
 use Prim.Native.Nat.{ℕ, _+_, _*_, _≤_, _<_}
 use lib.IntN.{ℤ, pos}
 use lib.ListN.{length, getD, take, drop}
+use Rattle.mesh.specs.Limits.{mostValence}
 use Rattle.mesh.specs.Ring.{placeAfter, placeBefore}
 use Rattle.units.specs.Coordinate.{beyond}
 use Rattle.rings.specs.Table.{ringOf}
@@ -38,7 +39,7 @@ pub record NamesEdge (ring : List ℕ) (p q before after : ℕ) : Type 0 where
 pub record EdgeVertex (above : List ℕ) (n end p q x before after : ℕ) : Type 0 where
   pub low : n ≤ x
   pub high : x < end
-  pub names : NamesEdge (take 6 (drop (x * 32) above)) p q before after
+  pub names : NamesEdge (take 6 (drop (x * mostValence) above)) p q before after
 
 -- the row of p on the next level names a new vertex for each edge of p
 pub record RowAgrees (row next above : List ℕ) (n end p : ℕ) : Type 0 where
@@ -47,11 +48,11 @@ pub record RowAgrees (row next above : List ℕ) (n end p : ℕ) : Type 0 where
 
 -- the rows of the first k old vertices do
 pub record RowsAgree (n end k : ℕ) (vs rs : List ℕ) : Type 0 where
-  pub row : (p : ℕ) → p < k → RowAgrees (ringOf vs rs p) (ringOf vs (drop (n * 32) rs) p) (drop (n * 32) rs) n end p
+  pub row : (p : ℕ) → p < k → RowAgrees (ringOf vs rs p) (ringOf vs (drop (n * mostValence) rs) p) (drop (n * mostValence) rs) n end p
 
 -- the edge that the ring in row x names, as one number that ascends by the lesser end and then by the greater
 unfoldable pub edgeKey : List ℕ → ℕ → ℕ
-edgeKey rings x = getD rings (x * 32) 0 * 65536 + getD rings (x * 32 + 3) 0
+edgeKey rings x = getD rings (x * mostValence) 0 * 65536 + getD rings (x * mostValence + 3) 0
 
 -- these numbers ascend over the first k rows
 pub record Ascends (rings : List ℕ) (k : ℕ) : Type 0 where

@@ -2,6 +2,7 @@
 ghost use mathlib.Core.Path.{_≡_};
 ghost use Prim.Native.Nat.{_+_, _*_, _≤_, _<_};
 ghost use lib.ListN.{length};
+ghost use Rattle.mesh.specs.Limits.{mostValence, mostVertices};
 ghost use Rattle.mesh.specs.Mesh.{edges};
 ghost use Rattle.rings.specs.Table.{rows};
 ghost use Rattle.level.specs.Level.{Ready};
@@ -49,8 +50,8 @@ fn is_edge_vertex(
     before: u16,
     after: u16,
 ) -> bool
-    requires { ⌜ end ≤ 65535 ⌝ }
-    requires { ⌜ end * 32 ≤ length (now above) ⌝ }
+    requires { ⌜ end ≤ mostVertices ⌝ }
+    requires { ⌜ end * mostValence ≤ length (now above) ⌝ }
     ensures { λ r. ⌜ Tells r (EdgeVertex (now (above .entry)) count end p q x before after) ⌝ }
 {
     let v = x as usize;
@@ -66,8 +67,8 @@ fn is_edge_vertex(
 
 // Does the row of p on the next level name a new vertex for each edge of p?
 fn row_agrees(row: &[u16], next: &[u16], above: &[u16], count: usize, end: usize, p: u16) -> bool
-    requires { ⌜ end ≤ 65535 ⌝ }
-    requires { ⌜ end * 32 ≤ length (now above) ⌝ }
+    requires { ⌜ end ≤ mostVertices ⌝ }
+    requires { ⌜ end * mostValence ≤ length (now above) ⌝ }
     requires { ⌜ 0 < length (now row) ⌝ }
     requires { ⌜ length (now next) ≡ length (now row) ⌝ }
     ensures { λ r. ⌜ Tells r (RowAgrees (now (row .entry)) (now (next .entry)) (now (above .entry)) count end p) ⌝ }
@@ -97,8 +98,8 @@ fn row_of_six_agrees(
     end: usize,
     p: u16,
 ) -> bool
-    requires { ⌜ end ≤ 65535 ⌝ }
-    requires { ⌜ end * 32 ≤ length (now above) ⌝ }
+    requires { ⌜ end ≤ mostVertices ⌝ }
+    requires { ⌜ end * mostValence ≤ length (now above) ⌝ }
     requires { ⌜ length (now row) ≡ 6 ⌝ }
     requires { ⌜ length (now next) ≡ 6 ⌝ }
     ensures { λ r. ⌜ Tells r (RowAgrees (now (row .entry)) (now (next .entry)) (now (above .entry)) count end p) ⌝ }
@@ -130,8 +131,8 @@ fn any_row_agrees(
     end: usize,
     p: u16,
 ) -> bool
-    requires { ⌜ end ≤ 65535 ⌝ }
-    requires { ⌜ end * 32 ≤ length (now above) ⌝ }
+    requires { ⌜ end ≤ mostVertices ⌝ }
+    requires { ⌜ end * mostValence ≤ length (now above) ⌝ }
     requires { ⌜ 0 < length (now row) ⌝ }
     requires { ⌜ length (now next) ≡ length (now row) ⌝ }
     ensures { λ r. ⌜ Tells r (RowAgrees (now (row .entry)) (now (next .entry)) (now (above .entry)) count end p) ⌝ }

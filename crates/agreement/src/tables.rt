@@ -1,14 +1,15 @@
 // What one look along a table tells: ascending edges, valences, coordinates in range. Misses are counted, and a count of none tells that there is none.
 ghost use Prim.Native.Nat.{_+_, _*_, _≤_};
 ghost use lib.ListN.{length};
+ghost use Rattle.mesh.specs.Limits.{mostValence, mostVertices, stackBound};
 ghost use Rattle.agreement.specs.Agreement.{Tells, Ascends, SameValences, SixValences, NearFrom};
 use mesh_check::positions::is_beyond;
 use rings::MOST_VALENCE;
 
 // Do the edges that the rings in the first rows name ascend?
 pub fn ascends(rings: &[u16], k: usize) -> bool
-    requires { ⌜ k ≤ 65535 ⌝ }
-    requires { ⌜ k * 32 ≤ length (now rings) ⌝ }
+    requires { ⌜ k ≤ mostVertices ⌝ }
+    requires { ⌜ k * mostValence ≤ length (now rings) ⌝ }
     ensures { λ r. ⌜ Tells r (Ascends (now (rings .entry)) k) ⌝ }
 {
     let mut falls: usize = 0;
@@ -28,7 +29,7 @@ pub fn ascends(rings: &[u16], k: usize) -> bool
 
 // Have the old vertices of the next level the valences they had?
 pub fn has_same_valences(valences: &[u16], count: usize) -> bool
-    requires { ⌜ count ≤ 65535 ⌝ }
+    requires { ⌜ count ≤ mostVertices ⌝ }
     requires { ⌜ count + count ≤ length (now valences) ⌝ }
     ensures { λ r. ⌜ Tells r (SameValences (now (valences .entry)) count count) ⌝ }
 {
@@ -46,8 +47,8 @@ pub fn has_same_valences(valences: &[u16], count: usize) -> bool
 // Are k valences from a place on 6?
 pub fn has_six_valences(valences: &[u16], from: usize, k: usize) -> bool
     requires { ⌜ from + k ≤ length (now valences) ⌝ }
-    requires { ⌜ from ≤ 1048576 ⌝ }
-    requires { ⌜ k ≤ 65535 ⌝ }
+    requires { ⌜ from ≤ stackBound ⌝ }
+    requires { ⌜ k ≤ mostVertices ⌝ }
     ensures { λ r. ⌜ Tells r (SixValences (now (valences .entry)) from k) ⌝ }
 {
     let mut other: u16 = 0;
@@ -64,7 +65,7 @@ pub fn has_six_valences(valences: &[u16], from: usize, k: usize) -> bool
 // Are k coordinates from a place on in range?
 pub fn is_near_from(positions: &[i32], from: usize, k: usize) -> bool
     requires { ⌜ from + k ≤ length (now positions) ⌝ }
-    requires { ⌜ from + k ≤ 1048576 ⌝ }
+    requires { ⌜ from + k ≤ stackBound ⌝ }
     ensures { λ r. ⌜ Tells r (NearFrom (now (positions .entry)) from k) ⌝ }
 {
     let mut beyond: u32 = 0;

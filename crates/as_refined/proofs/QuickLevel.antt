@@ -25,7 +25,7 @@ use Rattle.rings.specs.Check.{beyondAt}
 use Rattle.rings.proofs.Rows.{rows-ring, row-length}
 use Rattle.level.specs.Level.{Ready, HasOld}
 use Rattle.level.proofs.Mids.{ready-length, ready-entry, ring-once, old-after, old-before, new-places}
-use Rattle.refine.proofs.LevelRows.{part-is}
+use Rattle.rings.proofs.LevelRows.{part-is}
 use Rattle.strange.specs.Expected.{strangeNext}
 use Rattle.agreement.specs.Agreement.{NamesUpward, NamesDownward, EdgeVertex, RowsAgree, edgeKey, Ascends, SameValences, SixValences, NearFrom}
 use Rattle.strange.proofs.Strange.{not-other}

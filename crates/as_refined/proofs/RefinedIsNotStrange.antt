@@ -13,10 +13,11 @@ use Rattle.mesh.specs.Refine.{level}
 use Rattle.rings.specs.Table.{rows, coordinateAt}
 use Rattle.rings.specs.declared.Verdict.the-variants.{Accepted}
 use Rattle.units.specs.Coordinate.{InRange}
-use Rattle.refine.specs.Stack.{levelCount, levelStart}
-use Rattle.refine.specs.Refinement.{stackVerdict, refineValences, refineRings, refinePositions}
-use Rattle.refine.proofs.AcceptedStack.{stack-only}
-use Rattle.refine.proofs.Sizes.{level-count, start-none}
+use Rattle.stack_judge.specs.Stack.{levelCount, levelStart}
+use Rattle.stack_judge.specs.StackVerdict.{stackVerdict}
+use Rattle.refine.specs.Refinement.{refineValences, refineRings, refinePositions}
+use Rattle.stack_judge.proofs.AcceptedStack.{stack-only}
+use Rattle.stack_judge.proofs.Sizes.{level-count, start-none}
 use Rattle.refine.proofs.StackIsRefined.{valence-is-refined, ring-is-refined, level-is-refined}
 use Rattle.refine.proofs.StackStaysInHull.{stack-stays-in-range}
 use Rattle.strange.specs.Expected.{whole, strange}

@@ -22,11 +22,11 @@ use Rattle.rings.specs.Check.{beyondAt}
 use Rattle.rings.proofs.Rows.{rows-ring, row-length, room-row}
 use Rattle.rings.proofs.Checks.{near-of, not-beyond}
 use Rattle.level.specs.Level.{Ready, Near}
-use Rattle.refine.specs.Stack.{levelEdges, levelCount, levelStart, stackCount}
-use Rattle.refine.specs.Accepts.{AcceptsStack}
-use Rattle.refine.proofs.Sizes.{level-count, level-edges, start-none, start-suc}
+use Rattle.stack_judge.specs.Stack.{levelEdges, levelCount, levelStart, stackCount}
+use Rattle.stack_judge.specs.Accepts.{AcceptsStack}
+use Rattle.stack_judge.proofs.Sizes.{level-count, level-edges, start-none, start-suc}
 use Rattle.refine.proofs.StackLevels.{ring-part, point-part}
-use Rattle.refine.proofs.StackVertices.{starts-climb, vertex-in}
+use Rattle.stack_judge.proofs.StackVertices.{starts-climb, vertex-in}
 use Rattle.strange.specs.Expected.{whole, strange}
 use Rattle.strange.proofs.Strange.{as-wanted, not-other}
 use Rattle.as_refined.proofs.StackRows.{strange-is, clear-stack}

@@ -13,10 +13,10 @@ use Rattle.mesh.specs.Refine.{level}
 use Rattle.mesh.proofs.First.{Clear}
 use Rattle.rings.specs.Table.{rows}
 use Rattle.rings.specs.Check.{beyondAt}
-use Rattle.refine.specs.Stack.{levelCount, levelStart, stackCount, levelOf, numberIn}
-use Rattle.refine.proofs.Sizes.{start-none, start-suc}
+use Rattle.stack_judge.specs.Stack.{levelCount, levelStart, stackCount, levelOf, numberIn}
+use Rattle.stack_judge.proofs.Sizes.{start-none, start-suc}
 use Rattle.refine.proofs.StackLevels.{ring-part, point-part}
-use Rattle.refine.proofs.StackVertices.{starts-climb, stack-vertex, level-of, number-in}
+use Rattle.stack_judge.proofs.StackVertices.{starts-climb, stack-vertex, level-of, number-in}
 use Rattle.strange.specs.Expected.{otherThan, wanted, strange}
 
 beyond-part : (ps : List ℤ) (b x : ℕ) → beyondAt (drop (b * 3) ps) x ≡ beyondAt ps (b + x)

@@ -16,11 +16,11 @@ use Rattle.mesh.proofs.Lists.{lt-split}
 use Rattle.mesh.proofs.First.{Clear, first-at, first-is, first-end}
 use Rattle.rings.specs.Table.{rows}
 use Rattle.level.specs.Level.{Ready}
-use Rattle.refine.specs.Stack.{levelCount, levelStart, stackCount}
-use Rattle.refine.specs.Accepts.{AcceptsStack}
-use Rattle.refine.proofs.LevelRows.{part-is}
-use Rattle.refine.proofs.Sizes.{Sized, sized-more, sized-small, start-none, start-suc, start-small}
-use Rattle.refine.proofs.StackVertices.{starts-climb, vertex-in}
+use Rattle.stack_judge.specs.Stack.{levelCount, levelStart, stackCount}
+use Rattle.stack_judge.specs.Accepts.{AcceptsStack}
+use Rattle.rings.proofs.LevelRows.{part-is}
+use Rattle.stack_judge.proofs.Sizes.{Sized, sized-more, sized-small, start-none, start-suc, start-small}
+use Rattle.stack_judge.proofs.StackVertices.{starts-climb, vertex-in}
 use Rattle.strange.specs.Expected.{otherThan, strangeNext, whole, strange}
 use Rattle.as_refined.proofs.StackRows.{other-part, control-clear, strange-is}
 use Rattle.as_refined.proofs.StackAsRefined.{size, begin, valencesFrom, ringsFrom, positionsFrom, AsRefined, level-as-refined, part-edges, part-ready, part-points}

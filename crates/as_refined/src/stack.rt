@@ -3,7 +3,7 @@ ghost use mathlib.Core.Path.{_≡_};
 ghost use Rattle.mesh.specs.Mesh.{edges};
 ghost use Rattle.mesh.specs.Search.{first};
 ghost use Rattle.rings.specs.Table.{rows};
-ghost use Rattle.refine.specs.Refinement.{stackVerdict};
+ghost use Rattle.stack_judge.specs.StackVerdict.{stackVerdict};
 ghost use Rattle.rings.specs.declared.Verdict.the-variants.{Accepted};
 ghost use Rattle.strange.specs.Expected.{whole, strange};
 use super::quick::first_strange_level;

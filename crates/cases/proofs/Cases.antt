@@ -12,23 +12,25 @@ use Rattle.mesh.specs.Round.{rounded}
 use Rattle.mesh.specs.Mask.{byMask, touched, touchedCount, refined}
 use Rattle.mesh.specs.Loop.{loopMask, loop}
 use Rattle.units.specs.Coordinate.{beyond}
-use Rattle.units.specs.Millimetres.{inside, unitsOf, mmUnit}
-use Rattle.units.specs.Move.{fit, settledAt, movedTo}
+use Rattle.millimetres.specs.Millimetres.{inside, unitsOf, mmUnit}
+use Rattle.millimetres.specs.Move.{fit, settledAt, movedTo}
 use Rattle.rings.specs.Table.{put, ringOf, rows, padded, valenceRows, ringRows, coordinateAt, pointAt, pointRows}
 use Rattle.rings.specs.Verdict.{refuseIf, refuseAt, andThen, after, withCounts, withAmount}
 use Rattle.rings.specs.Check.{badCount, shortRings, shortTables, improperRow, unfitRow, beyondAt, checkVerdict, checkAnswer}
 use Rattle.ring_judge.specs.Judging.{tableVerdict, callVerdict}
 use Rattle.ring_query.specs.Queries.{withNeighbour, nextAnswer}
-use Rattle.refine.specs.Stack.{levelStart, stackCount, levelOf, numberIn, badLevels, tooLarge, shortStack}
-use Rattle.refine.specs.Refinement.{stackedValences, stackedRings, stackedPositions, stackVerdict, refineAnswer, refineValences, refineRings, refinePositions}
+use Rattle.stack_judge.specs.Stack.{levelStart, stackCount, levelOf, numberIn, badLevels, tooLarge, shortStack}
+use Rattle.stack_judge.specs.StackVerdict.{stackVerdict}
+use Rattle.refine.specs.Refinement.{stackedValences, stackedRings, stackedPositions, refineAnswer, refineValences, refineRings, refinePositions}
 use Rattle.plan.specs.Moves.{placed, step}
 use Rattle.map.specs.Map.{word, mapWords}
 use Rattle.strange.specs.Expected.{whole, otherThan, wanted, strange}
 use Rattle.moves.specs.Apply.{beforeMoves, moved, applyVerdict, touchedAt, touchedTotal, touchedMap, applyAnswer, applyMap}
 use Rattle.meshfile.specs.Layout.{fileCount, rowAt, fileValence, fileRing, filePoint, isFirst, isRow, isLast, fileVerdict}
-use Rattle.listing_text.specs.Lines as lines
+use Rattle.numerals.specs.Numerals as numerals
 use Rattle.listing_text.specs.Listing.{levelText}
-use Rattle.listing_text.specs.Lines.{digits, signed, countsLine, vertexLine}
+use Rattle.numerals.specs.Numerals.{digits, signed}
+use Rattle.listing_text.specs.Lines.{countsLine, vertexLine}
 use Rattle.file_reading.specs.Read.{readVerdict, readRings}
 use Rattle.meshfile.specs.Bytes.{recordOf, numberAt, lengthAt, kindAt, afterAt, wholeAt}
 use Rattle.file_writing.specs.Write.{payloadOf, fileOf}
@@ -41,7 +43,7 @@ unfolding firstFrom first some has placeAfter placeBefore next prev follows vale
     put ringOf rows padded valenceRows ringRows coordinateAt pointRows refuseIf refuseAt andThen after withCounts badCount shortRings shortTables unfitRow beyondAt checkVerdict checkAnswer
     tableVerdict improperRow callVerdict withNeighbour nextAnswer levelStart stackCount shortStack badLevels tooLarge stackedValences stackedRings stackedPositions stackVerdict refineAnswer refinePositions recordOf payloadOf fileOf
     tenth fifth ofBits le add refineValences refineRings levelOf numberIn placed step word mapWords otherThan wanted strange beforeMoves moved applyVerdict touchedAt touchedTotal touchedMap applyAnswer applyMap whole withAmount
-    pointAt numberAt lengthAt kindAt afterAt wholeAt fileCount rowAt fileValence fileRing filePoint isFirst isRow isLast fileVerdict readVerdict readRings levelText digits lines.number signed countsLine vertexLine
+    pointAt numberAt lengthAt kindAt afterAt wholeAt fileCount rowAt fileValence fileRing filePoint isFirst isRow isLast fileVerdict readVerdict readRings levelText digits numerals.number signed countsLine vertexLine
 cases = record {
   sound = refl;
   counts = refl;

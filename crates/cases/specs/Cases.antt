@@ -12,11 +12,11 @@ use Rattle.mesh.specs.Refine.{refine}
 use Rattle.mesh.specs.Round.{rounded}
 use Rattle.mesh.specs.Mask.{touched, touchedCount}
 use Rattle.mesh.specs.Loop.{loop}
-use Rattle.units.specs.Millimetres.{mmOf}
-use Rattle.units.specs.Move.{movedTo}
-use Rattle.units.specs.declared.Mm.{Mm}
-use Rattle.units.specs.declared.Change.the-variants.{Place, Shift}
-use Rattle.units.specs.declared.Moved.the-variants.{At, Outside}
+use Rattle.millimetres.specs.Millimetres.{mmOf}
+use Rattle.millimetres.specs.Move.{movedTo}
+use Rattle.millimetres.specs.declared.Mm.{Mm}
+use Rattle.millimetres.specs.declared.Change.the-variants.{Place, Shift}
+use Rattle.millimetres.specs.declared.Moved.the-variants.{At, Outside}
 use Rattle.rings.specs.Refusal.{accepted, refused}
 use Rattle.rings.specs.Paper.{paperCounted, paperAmount}
 use Rattle.ring_query.specs.Paper.{paperNeighbour}

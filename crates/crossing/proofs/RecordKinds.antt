@@ -8,8 +8,8 @@ use borrow.Author.Tests.{eq-eqb, ne-eqb, lt-ltb, le-ltb}
 use lib.Ieee.{nan}
 use lib.ListN.{length, getD, List·getD-map, List·getD-eq-default}
 use Rattle.rings.specs.Refusal.{Paper, refused}
-use Rattle.units.specs.declared.Change.{Change}
-use Rattle.units.specs.declared.Change.the-variants.{Place, Shift, Stretch}
+use Rattle.millimetres.specs.declared.Change.{Change}
+use Rattle.millimetres.specs.declared.Change.the-variants.{Place, Shift, Stretch}
 use Rattle.plan.specs.declared.Move.{Move}
 use Rattle.crossing.specs.Records.{moveOf, byKind, byKinds}
 use Rattle.crossing.specs.declared.MoveRecord.{MoveRecord}

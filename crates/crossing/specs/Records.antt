@@ -9,7 +9,7 @@ use lib.ListN.{getD}
 use Rattle.rings.specs.Refusal.{Paper, refused}
 use Rattle.rings.specs.Paper.{paperAmount}
 use Rattle.moves.specs.Apply.{applyAnswer}
-use Rattle.units.specs.declared.Change.the-variants.{Place, Shift, Stretch}
+use Rattle.millimetres.specs.declared.Change.the-variants.{Place, Shift, Stretch}
 use Rattle.plan.specs.declared.Move.{Move}
 use Rattle.crossing.specs.declared.MoveRecord.{MoveRecord}
 

@@ -11,10 +11,10 @@ use super::SHIFT;
 use super::STRETCH;
 use super::UNKNOWN_KIND;
 use super::ValueAnswer;
+use millimetres::Change;
 use plan::Move;
 use plan::Plan;
 use plan::list::step;
-use units::Change;
 
 // The move that a record means; one of an unknown kind is of a vertex that no mesh has.
 fn move_of(item: MoveRecord) -> Move

@@ -1,14 +1,14 @@
 -- What reading a row, all rows, and each return of `read` shows. Assumes nothing.
-use Prim.Native.Nat.{ℕ, zero, suc, _+_, _-_, _*_, _≤_, _<_}
+use Prim.Native.Nat.{ℕ, _+_, _-_, _*_, _≤_, _<_}
 use mathlib.Core.Path.{_≡_, refl, sym, ap, ap₂, subst, _∙_}
 use mathlib.Core.Bool.{Bool, true, false}
 use mathlib.Core.List.{List, [], _∷_, _++_}
-use native.Mathlib.Nat.{zero-add, suc-add}
+use native.Mathlib.Nat.{add-zero}
 use native.Mathlib.Numerals.{add-one}
 use native.Mathlib.Omega.{arith}
 use lib.IntN.{ℤ}
-use lib.ListN.{length, set, replicate, length-append, length-replicate, length-set}
-use Rattle.rings.specs.Table.{gather, padded, valenceRows, ringRows, pointRows}
+use lib.ListN.{length, set, replicate, length-append, length-replicate, length-set, replicate-append-replicate}
+use Rattle.rings.specs.Table.{put, gather, padded, valenceRows, ringRows, pointRows}
 use Rattle.rings.specs.Verdict.{refuseIf, andThen, after, withAmount}
 use Rattle.rings.specs.Check.{badCount, shortTables}
 use Rattle.rings.specs.declared.Refusal.{Refusal}
@@ -33,15 +33,10 @@ use Rattle.meshfile.proofs.Judging.{row-is, rows-start, reached-next}
 pub one-is : {A : Type 0} {l : List A} {i : ℕ} {a b : A} → b ≡ a → i < length l → Put l i (a ∷ []) (set l i b)
 one-is {A} {l} {i} e h = put-is (ap (λ (x : A). x ∷ []) e) (put-one h)
 
--- ---- unused places
+-- ---- a row of null vertices
 
-replicate-more : (n a : ℕ) → replicate (suc n) a ≡ replicate n a ++ (a ∷ [])
-replicate-more zero a = refl
-replicate-more (suc n) a = ap (λ (l : List ℕ). a ∷ l) (replicate-more n a)
-
-pub fill-next : {l m n : List ℕ} {i k : ℕ} (j : ℕ) → Put l i (replicate j 65535) m → k ≡ i + j → k < length m → n ≡ set m k 65535 → Put l i (replicate (j + 1) 65535) n
-fill-next {l} {m} {n} {i} {k} j p e h q =
-    rw (q, add-one, replicate-more j 65535) (then p (put-one h) (let r = length-replicate {A = ℕ} j 65535 in omega arith))
+pub row-cleared : {l m : List ℕ} (v : ℕ) → v * 32 + 32 ≤ length l → m ≡ put l (v * 32 + 0) (replicate 32 65535) → Put l (v * 32) (replicate 32 65535) m
+row-cleared {l} {m} v h e = record { fits = let w = length-replicate {A = ℕ} 32 65535 in omega arith; is = e ∙ ap (λ (k : ℕ). put l k (replicate 32 65535)) (add-zero (v * 32)) }
 
 -- ---- neighbours
 
@@ -64,17 +59,13 @@ unfolding fileRing
 ring-here {s} r = ap₂ (λ (k j : ℕ). gather (neighbourAt s (k + 20)) j) (r .begins) (row-valence r)
 
 -- a row of null vertices, and the ring over its front
-replicate-add : (i k a : ℕ) → replicate (i + k) a ≡ replicate i a ++ replicate k a
-replicate-add zero k a = ap (λ (j : ℕ). replicate j a) (zero-add k)
-replicate-add (suc i) k a = ap (λ (j : ℕ). replicate j a) (suc-add i k) ∙ ap (λ (l : List ℕ). a ∷ l) (replicate-add i k a)
-
 pub ring-padded : {s l m t : List ℕ} {v at n k : ℕ} → Row s v at n → Put l (v * 32) (replicate 32 65535) m → Put m k (gather (neighbourAt s (at + 20)) n) t → k ≡ v * 32 → Put l (v * 32) (padded (fileRing s v)) t
 unfolding padded
 ring-padded {s} {l} {m} {t} {v} {at} {n} {k} r p q e =
     let ring = fileRing s v in
     let h : length ring ≡ n = length-ring s v ∙ sym (row-valence r) in
     let x : 32 ≡ n + (32 - length ring) = let w = r .most in omega arith in
-    let y : replicate {A = ℕ} 32 65535 ≡ replicate n 65535 ++ replicate (32 - length ring) 65535 = ap (λ (j : ℕ). replicate {A = ℕ} j 65535) x ∙ replicate-add n (32 - length ring) 65535 in
+    let y : replicate {A = ℕ} 32 65535 ≡ replicate n 65535 ++ replicate (32 - length ring) 65535 = ap (λ (j : ℕ). replicate {A = ℕ} j 65535) x ∙ sym (replicate-append-replicate n (32 - length ring) 65535) in
     renewed (replicate n 65535) (replicate (32 - length ring) 65535) ring (put-is y p) (subst (λ (j : ℕ). Put m j ring t) e (put-is (ring-here r) q)) (h ∙ sym (length-replicate {A = ℕ} n 65535))
 
 -- four elements

@@ -1,13 +1,14 @@
 // A ring of a file: its neighbours, and the null vertex in the unused places. Neighbours are read four at a time, which a processor does at once.
 ghost use Prim.Native.Nat.{_+_, _-_, _*_, _/_, _≤_};
-ghost use lib.ListN.{length, replicate};
+ghost use lib.ListN.{length};
+ghost use Rattle.mesh.specs.Limits.{mostValence};
 ghost use Rattle.rings.specs.Table.{gather, padded};
 ghost use Rattle.meshfile.specs.Layout.{neighbourAt, fileRing};
 ghost use Rattle.meshfile.specs.Judging.{Row};
 ghost use Rattle.meshfile.specs.Blocks.{Put, gatherFrom};
 use meshfile::bytes::two_at;
 use rings::MOST_VALENCE;
-use rings::NULL_VERTEX;
+use rings::table::write_unused;
 
 // Four neighbours, from the i-th on.
 fn read_four(bytes: &[u8], from: usize, rings: &mut [u16], to: usize, i: usize)
@@ -69,24 +70,12 @@ fn read_neighbours(bytes: &[u8], from: usize, rings: &mut [u16], to: usize, n: u
     }
 }
 
-// The null vertex in some places, one after the other.
-fn fill(rings: &mut [u16], from: usize, n: usize)
-    requires { ⌜ from + n ≤ length (now rings) ⌝ }
-    ensures { λ r. ⌜ Put (now (rings .entry)) from (replicate n 65535) (now (rings .exit)) ⌝ }
-{
-    let mut i = 0;
-    while i < n {
-        rings[from + i] = NULL_VERTEX;
-        i += 1;
-    }
-}
-
 // The whole row of places of v.
 pub fn read_ring(bytes: &[u8], at: usize, rings: &mut [u16], v: usize, n: usize)
     requires { ⌜ Row (now bytes) v at n ⌝ }
-    requires { ⌜ v * 32 + 32 ≤ length (now rings) ⌝ }
-    ensures { λ r. ⌜ Put (now (rings .entry)) (v * 32) (padded (fileRing (now (bytes .entry)) v)) (now (rings .exit)) ⌝ }
+    requires { ⌜ v * mostValence + mostValence ≤ length (now rings) ⌝ }
+    ensures { λ r. ⌜ Put (now (rings .entry)) (v * mostValence) (padded (fileRing (now (bytes .entry)) v)) (now (rings .exit)) ⌝ }
 {
-    fill(rings, v * MOST_VALENCE, MOST_VALENCE);
+    write_unused(rings, v, 0);
     read_neighbours(bytes, at + 20, rings, v * MOST_VALENCE, n);
 }

@@ -3,6 +3,7 @@ ghost use mathlib.Core.Path.{_≡_};
 ghost use mathlib.Core.List.{[], _∷_};
 ghost use Prim.Native.Nat.{_+_, _*_, _≤_};
 ghost use lib.ListN.{length};
+ghost use Rattle.mesh.specs.Limits.{mostValence};
 ghost use Rattle.rings.specs.Table.{valenceRows, ringRows, pointRows};
 ghost use Rattle.meshfile.specs.Layout.{fileRing, filePoint, rowAt};
 ghost use Rattle.meshfile.specs.Judging.{Rows};
@@ -38,7 +39,7 @@ pub fn read_rows(
 )
     requires { ⌜ Rows (now bytes) count ⌝ }
     requires { ⌜ count ≤ length (now valences) ⌝ }
-    requires { ⌜ count * 32 ≤ length (now rings) ⌝ }
+    requires { ⌜ count * mostValence ≤ length (now rings) ⌝ }
     requires { ⌜ count * 3 ≤ length (now positions) ⌝ }
     ensures { λ r. ⌜ Put (now (valences .entry)) 0 (valenceRows (fileRing (now (bytes .entry))) count) (now (valences .exit)) ⌝ }
     ensures { λ r. ⌜ Put (now (rings .entry)) 0 (ringRows (fileRing (now (bytes .entry))) count) (now (rings .exit)) ⌝ }

@@ -2,6 +2,7 @@
 ghost use mathlib.Core.Path.{_≡_};
 ghost use Prim.Native.Nat.{_*_, _≤_};
 ghost use lib.ListN.{length};
+ghost use Rattle.mesh.specs.Limits.{mostCount};
 ghost use Rattle.mesh.specs.Search.{first};
 ghost use Rattle.file_writing.specs.Write.{rowsLength, overMost, writeAnswer, writeRoom};
 
@@ -37,9 +38,9 @@ fn first_over(valences: &[u16], count: usize) -> usize
 // How many bytes the rows take.
 fn rows_length(valences: &[u16], count: usize) -> usize
     requires { ⌜ count ≤ length (now valences) ⌝ }
-    requires { ⌜ count ≤ 1024 ⌝ }
+    requires { ⌜ count ≤ mostCount ⌝ }
     ensures { λ r. ⌜ r ≡ rowsLength (now (valences .entry)) count ⌝ }
-    ensures { λ r. ⌜ r ≤ 131090 * 1024 ⌝ }
+    ensures { λ r. ⌜ r ≤ 131090 * mostCount ⌝ }
 {
     let mut size = 0;
     let mut v = 0;

@@ -4,6 +4,7 @@ ghost use mathlib.Core.List.{_++_};
 ghost use Prim.Native.Nat.{_+_, _*_, _<_, _≤_};
 ghost use lib.IntN.{pos};
 ghost use lib.ListN.{length, getD};
+ghost use Rattle.mesh.specs.Limits.{mostValence};
 ghost use Rattle.rings.specs.Table.{gather, ringOf, coordinateAt};
 ghost use Rattle.rings.specs.Accepts.{HasRow};
 ghost use Rattle.meshfile.specs.Bytes.{bytesOf, bitsOf};
@@ -56,7 +57,7 @@ fn put_row(
     v: usize,
 ) -> usize
     requires { ⌜ at + (20 + 2 * getD (now valences) v 0) ≤ length (now file) ⌝ }
-    requires { ⌜ getD (now valences) v 0 ≤ 32 ⌝ }
+    requires { ⌜ getD (now valences) v 0 ≤ mostValence ⌝ }
     requires { ⌜ HasRow (now valences) (now rings) v ⌝ }
     requires { ⌜ v * 3 + 3 ≤ length (now positions) ⌝ }
     ensures { λ r. ⌜ Put (now (file .entry)) at (rowBytes (ringOf (now (valences .entry)) (now (rings .entry))) (coordinateAt (now (positions .entry))) v) (now (file .exit)) ⌝ }

@@ -21,7 +21,7 @@ use Rattle.level.proofs.Kept.{rows-kept}
 use Rattle.level.proofs.Mids.{ready-length, q-in, p-in, neighbour-lt, neighbour-ne, after-back, before-back}
 use Rattle.level.proofs.OldRings.{old-entry}
 use Rattle.level.proofs.NextLevel.{wide-ring, length-rings, old-ring-is, new-range, new-ring-is}
-use Rattle.level.proofs.Written.{padded-at}
+use Rattle.rings.proofs.Blocks.{padded-at}
 use Rattle.halves.specs.Nearer.{Nearer, ringsNext, numberAt}
 
 -- two tables that differ in a block at most are the same where the block is written

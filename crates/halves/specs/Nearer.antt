@@ -6,6 +6,7 @@ use mathlib.Core.Logic.{_⊎_}
 use Prim.Native.Nat.{ℕ, _+_, _*_, _≤_, _<_}
 use lib.IntN.{ℤ, pos}
 use lib.ListN.{length, getD}
+use Rattle.mesh.specs.Limits.{mostValence}
 use Rattle.mesh.specs.Mesh.{edges}
 use Rattle.mesh.specs.Refine.{mid}
 use Rattle.rings.specs.Table.{ringOf, rows}
@@ -30,10 +31,10 @@ numberAt n vs rs p i = mid (rows n vs rs) p (getD (ringOf vs rs p) i 0)
 -- where the rows of new vertices are right after some places i of vertices u are done: a row's places 0, 1, 5 and the unused ones by its lesser end, 2 to 4 by its greater end
 pub record Halves (n : ℕ) (vs rs new : List ℕ) (Did : ℕ → ℕ → Type 0) : Type 0 where
   pub nearer : Nearer 0 (ringsNext n vs rs) rs new
-  pub low : (u i : ℕ) → Did u i → u < getD (ringOf vs rs u) i 0 → (k : ℕ) → k < 32 → (k < 2) ⊎ (4 < k)
-      → getD new ((n + numberAt n vs rs u i) * 32 + k) 0 ≡ getD (ringsNext n vs rs) ((n + numberAt n vs rs u i) * 32 + k) 0
+  pub low : (u i : ℕ) → Did u i → u < getD (ringOf vs rs u) i 0 → (k : ℕ) → k < mostValence → (k < 2) ⊎ (4 < k)
+      → getD new ((n + numberAt n vs rs u i) * mostValence + k) 0 ≡ getD (ringsNext n vs rs) ((n + numberAt n vs rs u i) * mostValence + k) 0
   pub high : (u i : ℕ) → Did u i → getD (ringOf vs rs u) i 0 ≤ u → (k : ℕ) → 1 < k → k < 5
-      → getD new ((n + numberAt n vs rs u i) * 32 + k) 0 ≡ getD (ringsNext n vs rs) ((n + numberAt n vs rs u i) * 32 + k) 0
+      → getD new ((n + numberAt n vs rs u i) * mostValence + k) 0 ≡ getD (ringsNext n vs rs) ((n + numberAt n vs rs u i) * mostValence + k) 0
 
 -- where the points of new vertices are right: those of edges from u to a greater neighbour at place i
 pub record Points (n : ℕ) (vs rs : List ℕ) (ps new : List ℤ) (Did : ℕ → ℕ → Type 0) : Type 0 where

@@ -4,22 +4,23 @@
 ghost use mathlib.Core.Path.{_≡_};
 ghost use Prim.Native.Nat.{_+_, _*_, _≤_, _<_};
 ghost use lib.ListN.{length, getD, set, replicate};
+ghost use Rattle.mesh.specs.Limits.{mostValence, stackBound, nullVertex};
 ghost use Rattle.rings.specs.Table.{put};
 ghost use Rattle.level.specs.Level.{Ready, Levels, HasOld};
 ghost use Rattle.halves.specs.Nearer.{Halves, Points, OnePlace, PlacesBelow};
 use super::rows::row_of;
-use super::rows::write_unused;
 use level::points::edge_point_at;
 use level::points::set_point;
 use rings::MOST_VALENCE;
 use rings::ring::place_after;
 use rings::ring::place_before;
+use rings::table::write_unused;
 
 // Writes the half of a new ring that lies around its lesser end p, and the unused places.
 fn write_low(rings: &mut [u16], row: usize, p: u16, before: u16, after: u16)
-    requires { ⌜ row ≤ 1048576 ⌝ }
-    requires { ⌜ row * 32 + 32 ≤ length (now rings) ⌝ }
-    ensures { λ _. ⌜ now (rings .exit) ≡ put (set (set (set (now (rings .entry)) (row * 32) p) (row * 32 + 1) before) (row * 32 + 5) after) (row * 32 + 6) (replicate 26 65535) ⌝ }
+    requires { ⌜ row ≤ stackBound ⌝ }
+    requires { ⌜ row * mostValence + mostValence ≤ length (now rings) ⌝ }
+    ensures { λ _. ⌜ now (rings .exit) ≡ put (set (set (set (now (rings .entry)) (row * mostValence) p) (row * mostValence + 1) before) (row * mostValence + 5) after) (row * mostValence + 6) (replicate 26 nullVertex) ⌝ }
 {
     let a = row * MOST_VALENCE;
     rings[a] = p;
@@ -30,9 +31,9 @@ fn write_low(rings: &mut [u16], row: usize, p: u16, before: u16, after: u16)
 
 // Writes the half of a new ring that lies around its greater end p.
 fn write_high(rings: &mut [u16], row: usize, p: u16, before: u16, after: u16)
-    requires { ⌜ row ≤ 1048576 ⌝ }
-    requires { ⌜ row * 32 + 32 ≤ length (now rings) ⌝ }
-    ensures { λ _. ⌜ now (rings .exit) ≡ set (set (set (now (rings .entry)) (row * 32 + 3) p) (row * 32 + 4) before) (row * 32 + 2) after ⌝ }
+    requires { ⌜ row ≤ stackBound ⌝ }
+    requires { ⌜ row * mostValence + mostValence ≤ length (now rings) ⌝ }
+    ensures { λ _. ⌜ now (rings .exit) ≡ set (set (set (now (rings .entry)) (row * mostValence + 3) p) (row * mostValence + 4) before) (row * mostValence + 2) after ⌝ }
 {
     let a = row * MOST_VALENCE;
     rings[a + 3] = p;

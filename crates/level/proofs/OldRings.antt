@@ -11,7 +11,7 @@ use Rattle.mesh.specs.Refine.{mid, oldRing}
 use Rattle.rings.specs.Table.{put, ringOf, rows, padded}
 use Rattle.rings.proofs.Rows.{rows-ring}
 use Rattle.level.specs.Level.{Ready, HasOld, startOf}
-use Rattle.level.proofs.Blocks.{row-more, row-padded}
+use Rattle.rings.proofs.Blocks.{row-more, row-padded}
 use Rattle.level.proofs.Kept.{behind-ready, behind-start, behind-mid, behind-old}
 use Rattle.level.proofs.Mids.{ready-length}
 

@@ -5,7 +5,7 @@ use mathlib.Core.List.{List, [], _∷_}
 use Prim.Native.Nat.{ℕ, _+_, _*_, _≤_, _<_}
 use lib.IntN.{ℤ}
 use lib.ListN.{length, getD}
-use Rattle.mesh.specs.Limits.{mostValence, mostVertices}
+use Rattle.mesh.specs.Limits.{mostValence, mostVertices, mostUnits}
 use Rattle.mesh.specs.Mesh.{Mesh, Sound, edges}
 use Rattle.mesh.specs.Numbering.{start}
 use Rattle.mesh.specs.Refine.{up, mid, refine}
@@ -18,7 +18,6 @@ use Rattle.units.specs.Points.{ringSum}
 use Rattle.units.specs.declared.Point.{Point}
 use Rattle.rings.specs.Table.{put, ringOf, rows, valenceRows, ringRows, coordinateAt, pointRows}
 use Rattle.rings.specs.Accepts.{Room}
-use Rattle.level.specs.declared.NewRing.{NewRing}
 use Rattle.level.specs.declared.Sums.{Sums}
 
 -- the first n rows are a sound mesh, the next level has at most 65,535 vertices, and the tables have rows for both
@@ -39,7 +38,7 @@ pub record AllBelow (n : ℕ) (ring : List ℕ) : Type 0 where
 
 -- s is the sum of one coordinate over a ring's vertices, moved up once for each, and not more than they allow
 pub record SumOf (ring : List ℕ) (at : ℕ → ℤ) (s : ℕ) : Type 0 where
-  pub sum : Is (ringSum at ring) s (length ring * 1048576)
+  pub sum : Is (ringSum at ring) s (length ring * mostUnits)
   pub small : s ≤ length ring * 2097152
 
 -- the three sums of a ring
@@ -55,10 +54,6 @@ startOf n vs rs p = start (up (rows n vs rs)) p
 -- the old vertices below k have their rings of the next level
 pub record HasOld (n : ℕ) (vs rs : List ℕ) (k : ℕ) : Type 0 where
   pub place : (u : ℕ) → u < k → (i : ℕ) → i < getD vs u 0 → getD rs ((n + u) * mostValence + i) 0 ≡ mid (rows n vs rs) u (getD (ringOf vs rs u) i 0)
-
--- the places of a new vertex's ring
-abbrev pub placesOf : NewRing → List ℕ
-placesOf r = r .p ∷ r .pb ∷ r .qb ∷ r .q ∷ r .qa ∷ r .pa ∷ []
 
 -- the point that a mask gives
 unfoldable pub pointBy : Mask → List ℤ → Point

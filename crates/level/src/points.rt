@@ -2,6 +2,7 @@
 ghost use mathlib.Core.Path.{_≡_};
 ghost use Prim.Native.Nat.{_+_, _*_, _≤_, _<_};
 ghost use lib.ListN.{length, getD};
+ghost use Rattle.mesh.specs.Limits.{mostValence, mostVertices, stackBound};
 ghost use Rattle.mesh.specs.Loop.{edgeMask, vertexMask};
 ghost use Rattle.mesh.specs.Ring.{placeAfter, placeBefore};
 ghost use Rattle.units.specs.Coordinate.{InRange};
@@ -19,8 +20,8 @@ use units::vertex_point;
 // The sums of the coordinates of a ring's vertices, each moved up.
 fn ring_sums(ring: &[u16], positions: &[i32], count: usize) -> Sums
     requires { ⌜ Near count (now positions) ⌝ }
-    requires { ⌜ count ≤ 65535 ⌝ }
-    requires { ⌜ length (now ring) ≤ 32 ⌝ }
+    requires { ⌜ count ≤ mostVertices ⌝ }
+    requires { ⌜ length (now ring) ≤ mostValence ⌝ }
     requires { ⌜ AllBelow count (now ring) ⌝ }
     ensures { λ r. ⌜ SumsOf (now (ring .entry)) (now (positions .entry)) r ⌝ }
 {
@@ -41,9 +42,9 @@ fn ring_sums(ring: &[u16], positions: &[i32], count: usize) -> Sums
 // The point of old vertex v, which has this ring, on the next level.
 pub fn ring_point(ring: &[u16], positions: &[i32], count: usize, v: usize) -> Point
     requires { ⌜ Near count (now positions) ⌝ }
-    requires { ⌜ count ≤ 65535 ⌝ }
+    requires { ⌜ count ≤ mostVertices ⌝ }
     requires { ⌜ 3 ≤ length (now ring) ⌝ }
-    requires { ⌜ length (now ring) ≤ 32 ⌝ }
+    requires { ⌜ length (now ring) ≤ mostValence ⌝ }
     requires { ⌜ AllBelow count (now ring) ⌝ }
     requires { ⌜ v < count ⌝ }
     ensures { λ r. ⌜ r ≡ pointBy (vertexMask v (now (ring .entry))) (now (positions .entry)) ⌝ }
@@ -79,7 +80,7 @@ pub fn old_point(
 // The point of the new vertex of the edge p, q, with the vertices a and b beside it.
 fn edge_point_of(positions: &[i32], count: usize, p: usize, q: usize, a: usize, b: usize) -> Point
     requires { ⌜ Near count (now positions) ⌝ }
-    requires { ⌜ count ≤ 65535 ⌝ }
+    requires { ⌜ count ≤ mostVertices ⌝ }
     requires { ⌜ p < count ⌝ ∗ ⌜ q < count ⌝ ∗ ⌜ a < count ⌝ ∗ ⌜ b < count ⌝ }
     ensures { λ r. ⌜ r ≡ pointBy (edgeMask p q a b) (now (positions .entry)) ⌝ }
     ensures { λ r. ⌜ InRange (r .x) × InRange (r .y) × InRange (r .z) ⌝ }
@@ -108,7 +109,7 @@ fn edge_point_of(positions: &[i32], count: usize, p: usize, q: usize, a: usize, 
 // The point of the new vertex of the edge from p, which has this ring, to the neighbour at place i.
 pub fn edge_point_at(ring: &[u16], positions: &[i32], count: usize, p: usize, i: usize) -> Point
     requires { ⌜ Near count (now positions) ⌝ }
-    requires { ⌜ count ≤ 65535 ⌝ }
+    requires { ⌜ count ≤ mostVertices ⌝ }
     requires { ⌜ AllBelow count (now ring) ⌝ }
     requires { ⌜ p < count ⌝ }
     requires { ⌜ i < length (now ring) ⌝ }
@@ -143,7 +144,7 @@ pub fn new_point(
 
 // Writes the point of vertex v.
 pub fn set_point(positions: &mut [i32], v: usize, point: Point)
-    requires { ⌜ v ≤ 1048576 ⌝ }
+    requires { ⌜ v ≤ stackBound ⌝ }
     requires { ⌜ v * 3 + 3 ≤ length (now positions) ⌝ }
     ensures { λ _. ⌜ now (positions .exit) ≡ put (now (positions .entry)) (v * 3) (coordinates point) ⌝ }
 {

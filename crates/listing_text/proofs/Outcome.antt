@@ -20,12 +20,13 @@ use Rattle.rings.specs.declared.Amount.the-variants.{Of}
 use Rattle.rings.specs.declared.Counted.{Counted}
 use Rattle.rings.specs.declared.Counted.the-variants as counted
 use Rattle.rings.specs.declared.Counted.the-variants.{Counts}
-use Rattle.refine.specs.Stack.{stackCount}
-use Rattle.refine.specs.Refinement.{stackVerdict, refineAnswer}
-use Rattle.refine.proofs.AcceptedStack.{stack-only}
-use Rattle.refine.proofs.Sizes.{level-count, start-none, start-suc}
+use Rattle.stack_judge.specs.Stack.{stackCount}
+use Rattle.stack_judge.specs.StackVerdict.{stackVerdict}
+use Rattle.refine.specs.Refinement.{refineAnswer}
+use Rattle.stack_judge.proofs.AcceptedStack.{stack-only}
+use Rattle.stack_judge.proofs.Sizes.{level-count, start-none, start-suc}
 use Rattle.file_reading.specs.Read.{readAnswer, readValences, readRings, readPositions}
-use Rattle.listing_text.specs.Wrote.{Wrote}
+use Rattle.numerals.specs.Wrote.{Wrote}
 use Rattle.listing_text.specs.Lines.{countsLine, vertexLine, refusedLine}
 use Rattle.listing_text.specs.Listing.{levelText, refinedText, meshText, fileText, listingText}
 

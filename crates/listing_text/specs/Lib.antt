@@ -1,4 +1,3 @@
--- The listing: numerals and lines, the whole text, and what a function that writes a part of it promises.
+-- The listing: its lines, and the whole text.
 pub mod Lines
 pub mod Listing
-pub mod Wrote

@@ -2,10 +2,11 @@
 -- Assumes nothing.
 use mathlib.Core.Bool.{cond}
 use mathlib.Core.List.{List, _++_}
-use Prim.Native.Nat.{ℕ}
+use Prim.Native.Nat.{ℕ, _*_}
 use lib.Dec.{ltb}
 use lib.IntN.{ℤ, pos}
 use lib.ListN.{length, replicate}
+use Rattle.mesh.specs.Limits.{listingBytes, listingVertices, mostValence}
 use Rattle.rings.specs.Table.{gather}
 use Rattle.rings.specs.declared.Refusal.the-variants.{NoRoom}
 use Rattle.rings.specs.declared.Amount.{Amount}
@@ -38,4 +39,5 @@ fileText s vs rs ps = meshText (readValences s vs rs ps) (readRings s vs rs ps) 
 
 -- an input over 16,384 bytes counts as reason 10, place 0
 unfoldable pub listingText : List ℕ → List ℕ
-listingText s = cond (ltb 16384 (length s)) (refusedLine NoRoom) (fileText s (replicate 256 0) (replicate 8192 0) (replicate 768 (pos 0)))
+listingText s = cond (ltb listingBytes (length s)) (refusedLine NoRoom)
+    (fileText s (replicate listingVertices 0) (replicate (listingVertices * mostValence) 0) (replicate (listingVertices * 3) (pos 0)))

@@ -2,9 +2,10 @@
 ghost use mathlib.Core.Path.{_≡_};
 ghost use Prim.Native.Nat.{_≤_};
 ghost use lib.ListN.{length};
+ghost use Rattle.mesh.specs.Limits.{listingVertices};
 ghost use Rattle.rings.specs.Table.{put};
 ghost use Rattle.listing_text.specs.Listing.{refinedText, fileText, listingText};
-ghost use Rattle.listing_text.specs.Wrote.{Wrote};
+ghost use Rattle.numerals.specs.Wrote.{Wrote};
 use file_reading::read;
 use lines::LEVEL;
 use lines::put_level;
@@ -15,7 +16,6 @@ use rings::Counted;
 use rings::Refusal;
 
 pub mod lines;
-pub mod numbers;
 
 // The most bytes of an input.
 pub const MOST_BYTES: usize = 16384;
@@ -29,7 +29,7 @@ fn put_refined(
     count: usize,
 ) -> usize
     requires { ⌜ 32768 ≤ length (now text) ⌝ }
-    requires { ⌜ length (now valences) ≤ 256 ⌝ }
+    requires { ⌜ length (now valences) ≤ listingVertices ⌝ }
     ensures { λ r. ⌜ Wrote (now (text .entry)) 0 (refinedText count (now (valences .entry)) (now (rings .entry)) (now (positions .entry))) (now (text .exit)) r 32768 ⌝ }
 {
     match refine(valences, rings, positions, count, LEVEL) {
@@ -47,7 +47,7 @@ fn put_read(
     positions: &mut [i32],
 ) -> usize
     requires { ⌜ 32768 ≤ length (now text) ⌝ }
-    requires { ⌜ length (now valences) ≤ 256 ⌝ }
+    requires { ⌜ length (now valences) ≤ listingVertices ⌝ }
     ensures { λ r. ⌜ Wrote (now (text .entry)) 0 (fileText (now (input .entry)) (now (valences .entry)) (now (rings .entry)) (now (positions .entry))) (now (text .exit)) r 32768 ⌝ }
 {
     match read(input, valences, rings, positions) {

@@ -2,11 +2,12 @@
 ghost use mathlib.Core.Path.{_≡_};
 ghost use Prim.Native.Nat.{_*_, _/_, _≤_, _<_};
 ghost use lib.ListN.{length};
+ghost use Rattle.mesh.specs.Limits.{stackBound};
 ghost use Rattle.map.specs.Map.{marked, NoneFrom, wordCount, members, onesIn, including, emptied};
 
 // How many words the map of `total` points needs.
 pub fn words_for(total: usize) -> usize
-    requires { ⌜ total ≤ 1048576 ⌝ }
+    requires { ⌜ total ≤ stackBound ⌝ }
     ensures { λ r. ⌜ r ≡ wordCount total ⌝ }
 {
     (total + 31) / 32
@@ -51,7 +52,7 @@ pub fn mark(map: &mut [u32], i: usize)
 
 // Unmarks all numbers in the words that `total` points need.
 pub fn clear(map: &mut [u32], total: usize)
-    requires { ⌜ total ≤ 1048576 ⌝ }
+    requires { ⌜ total ≤ stackBound ⌝ }
     requires { ⌜ wordCount total ≤ length (now map) ⌝ }
     ensures { λ _. ⌜ marked (now (map .exit)) ≡ emptied (wordCount total * 32) (marked (now (map .entry))) ⌝ }
 {
@@ -65,7 +66,7 @@ pub fn clear(map: &mut [u32], total: usize)
 
 // The number of ones in the words that `total` points need, which is how many numbers they mark.
 pub fn count(map: &[u32], total: usize) -> usize
-    requires { ⌜ total ≤ 1048576 ⌝ }
+    requires { ⌜ total ≤ stackBound ⌝ }
     requires { ⌜ wordCount total ≤ length (now map) ⌝ }
     ensures { λ r. ⌜ r ≡ onesIn (now (map .entry)) (wordCount total) ⌝ }
     ensures { λ r. ⌜ r ≡ members (marked (now (map .entry))) (wordCount total * 32) ⌝ }

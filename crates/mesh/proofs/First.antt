@@ -6,8 +6,7 @@ use mathlib.Core.Logic.{⊎-elim}
 use native.Mathlib.Nat.{eq-or-lt-of-le, le-antisymm}
 use native.Mathlib.Omega.{arith}
 use borrow.Author.Count.{below-more}
-use borrow.Author.Tests.{lt-ltb, le-ltb, ltb-true, ltb-false, eq-eqb, ne-eqb}
-use lib.Dec.{eqb}
+use borrow.Author.Tests.{lt-ltb, le-ltb, ltb-true, ltb-false}
 use Rattle.mesh.specs.Search.{firstFrom, first, some}
 
 -- no number below i passes the test
@@ -105,14 +104,6 @@ some-all p n e = let h : n ≤ first p n = ltb-false (first p n) n e in record {
 pub some-at : (p : ℕ → Bool) (n : ℕ) → some p n ≡ true → (first p n < n) × (p (first p n) ≡ true)
 unfolding some
 some-at p n e = let l : first p n < n = ltb-true (first p n) n e in (l, first-at p n l)
-
--- ---- tests of a number that came through a call
-
-pub via-eqb : {r a b : ℕ} → r ≡ a → r ≡ b → eqb a b ≡ true
-via-eqb {r} {a} {b} p q = eq-eqb a b (sym p ∙ q)
-
-pub via-neb : {r a b : ℕ} → r ≡ a → (r ≡ b → ⊥) → eqb a b ≡ false
-via-neb {r} {a} {b} p q = ne-eqb a b (λ e. q (p ∙ e))
 
 -- a disjunction that is false
 pub or-false : (a b : Bool) → a || b ≡ false → (a ≡ false) × (b ≡ false)

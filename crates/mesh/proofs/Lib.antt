@@ -26,6 +26,7 @@ pub mod Means
 pub mod Places
 pub mod Checked
 pub mod Ranks
+pub mod Overs
 pub mod Lifted
 pub mod Hull
 pub mod EditPlaces

@@ -13,7 +13,7 @@ use Rattle.mesh.specs.Mesh.{Mesh, Sound, edges}
 use Rattle.mesh.specs.Numbering.{below, start, number}
 use Rattle.mesh.specs.Refine.{up, mid, refine}
 use Rattle.mesh.proofs.Numbers.{start-zero, start-suc}
-use Rattle.mesh.proofs.Rings.{place-lt, getD-place, after-lt, before-lt, next-at, prev-at, getD-map}
+use Rattle.mesh.proofs.Rings.{place-lt, after-lt, before-lt, next-at, prev-at, getD-map}
 use Rattle.mesh.proofs.Edges as E
 use Rattle.mesh.proofs.Refined as R
 
@@ -41,16 +41,6 @@ module _ (M : Mesh) (S : Sound M) where
 
   pub old-place : (v i : ℕ) → v < M .count → i < length (M .ring v) → getD (refine M .ring v) i 0 ≡ mid M v (getD (M .ring v) i 0)
   old-place v i h k = ap (λ l. getD l i 0) (R.old-ring M S v h) ∙ getD-map (mid M v) (M .ring v) i 0 0 k
-
-  -- where u is in the ring of v, the new row of u has the same number at the place of v
-  pub shared-place : (v u : ℕ) → v < M .count → u ∈ M .ring v → getD (refine M .ring v) (place u (M .ring v)) 0 ≡ getD (refine M .ring u) (place v (M .ring u)) 0
-  shared-place v u h m =
-      let m′ : v ∈ M .ring u = S .mutual′ v u h m in
-      old-place v (place u (M .ring v)) h (place-lt u (M .ring v) m)
-      ∙ ap (mid M v) (getD-place u (M .ring v) 0 m)
-      ∙ E.mid-sym M (S .proper) (S .mutual′) v u
-      ∙ ap (mid M u) (sym (getD-place v (M .ring u) 0 m′))
-      ∙ sym (old-place u (place v (M .ring u)) (S .proper v h .known u m) (place-lt v (M .ring u) m′))
 
   -- the new row of v beside the place of u: the new vertices of v and u's two neighbours there
   after-place : (v u : ℕ) → v < M .count → u ∈ M .ring v → getD (refine M .ring v) (placeAfter (length (M .ring v)) (place u (M .ring v))) 0 ≡ mid M v (next (M .ring v) u)

@@ -7,6 +7,7 @@ use Prim.Native.Nat.{ℕ, zero, suc, _≤_, _<_}
 use native.Mathlib.Omega.{arith}
 use lib.IntN.{ℤ}
 use Rattle.mesh.specs.Mask.{Term, weighted, anySource, SourcesBelow, byMask, Steps, Grounded, touched, refined, refreshed}
+use Rattle.mesh.proofs.TouchedPoints.{touched-same}
 
 -- two levels that agree at the sources give one value
 pub weighted-same : (n : ℕ) (f g : ℕ → ℤ) → ((v : ℕ) → v < n → f v ≡ g v) → (ts : List Term) → SourcesBelow n ts → weighted ts f ≡ weighted ts g
@@ -66,15 +67,19 @@ module _ (S : Steps) (grounded : Grounded S) where
   refined-same control control′ same (suc k) x h =
       byMask-same S grounded k x h (refined S control k) (refined S control′ k) (refined-same control control′ same k)
 
-  -- a refreshed level depends only on the control points and on what is held up to it
-  pub refreshed-same : (named : ℕ → Bool) (held held′ : ℕ → ℕ → ℤ) (control control′ : ℕ → ℤ) → ((v : ℕ) → v < S .size 0 → control v ≡ control′ v)
-      → (k : ℕ) → ((j x : ℕ) → j ≤ k → x < S .size j → held j x ≡ held′ j x) → (x : ℕ) → x < S .size k → refreshed S named held control k x ≡ refreshed S named held′ control′ k x
+  -- a refreshed level depends only on the named control vertices, the control points and what is held above level 0 up to it
+  pub refreshed-same : (named named′ : ℕ → Bool) → ((v : ℕ) → v < S .size 0 → named v ≡ named′ v)
+      → (control control′ : ℕ → ℤ) → ((v : ℕ) → v < S .size 0 → control v ≡ control′ v)
+      → (held held′ : ℕ → ℕ → ℤ) (k : ℕ) → ((j x : ℕ) → j < k → x < S .size (suc j) → held (suc j) x ≡ held′ (suc j) x)
+      → (x : ℕ) → x < S .size k → refreshed S named held control k x ≡ refreshed S named′ held′ control′ k x
   unfolding refreshed
-  refreshed-same named held held′ control control′ same zero was v h = same v h
-  refreshed-same named held held′ control control′ same (suc k) was x h =
-      ap₂ (λ a b. cond (touched S named (suc k) x) a b)
-      (byMask-same S grounded k x h (refreshed S named held control k) (refreshed S named held′ control′ k) (refreshed-same named held held′ control control′ same k (λ j y l. was j y (omega arith))))
-      (was (suc k) x (omega arith) h)
+  refreshed-same named named′ names control control′ points held held′ zero was v h = points v h
+  refreshed-same named named′ names control control′ points held held′ (suc k) was x h =
+      rw (touched-same S grounded named named′ names (suc k) x h)
+      (ap₂ (λ (a b : ℤ). cond (touched S named′ (suc k) x) a b)
+      (byMask-same S grounded k x h (refreshed S named held control k) (refreshed S named′ held′ control′ k)
+      (refreshed-same named named′ names control control′ points held held′ k (λ j y l. was j y (omega arith))))
+      (was k x (omega arith) h))
 
 -- what a refresh does at one point above level 0
 module _ (S : Steps) (named : ℕ → Bool) (held : ℕ → ℕ → ℤ) (control : ℕ → ℤ) (k x : ℕ) where

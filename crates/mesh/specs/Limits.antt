@@ -33,6 +33,10 @@ mostLevels = 4
 abbrev pub mostVertices : ℕ
 mostVertices = 65535
 
+-- no stack has more vertices than this; places in its tables are worked out from numbers up to it
+abbrev pub stackBound : ℕ
+stackBound = 1048576
+
 -- the number that stands for no vertex
 abbrev pub nullVertex : ℕ
 nullVertex = 65535

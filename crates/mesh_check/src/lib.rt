@@ -3,6 +3,7 @@ ghost use mathlib.Core.Path.{_≡_};
 ghost use mathlib.Core.Bool.{false};
 ghost use Prim.Native.Nat.{_*_, _≤_};
 ghost use lib.ListN.{length, getD};
+ghost use Rattle.mesh.specs.Limits.{mostCount};
 ghost use Rattle.mesh.specs.Search.{sum};
 ghost use Rattle.rings.specs.Verdict.{refuseAt};
 ghost use Rattle.rings.specs.Check.{badCount, shortTables, beyondAt, checkVerdict, checkAnswer};
@@ -29,7 +30,7 @@ pub const MOST_UNITS: i32 = 1048576;
 // The sum of the valences.
 pub fn valence_sum(valences: &[u16], count: usize) -> usize
     requires { ⌜ count ≤ length (now valences) ⌝ }
-    requires { ⌜ count ≤ 1024 ⌝ }
+    requires { ⌜ count ≤ mostCount ⌝ }
     ensures { λ r. ⌜ r ≡ sum (λ v. getD (now (valences .entry)) v 0) count ⌝ }
     ensures { λ r. ⌜ r ≤ 65536 * count ⌝ }
 {

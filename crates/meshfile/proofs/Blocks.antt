@@ -6,9 +6,10 @@ use native.Mathlib.Nat.{add-zero, le-antisymm}
 use native.Mathlib.Numerals.{add-one}
 use native.Mathlib.Omega.{arith}
 use lib.ListN.{length, take, drop, set, length-append, length-take}
-use lib.Seq.{set-split, take-at, drop-at, drop-drop}
+use lib.Seq.{take-at, drop-at, drop-drop}
 use Rattle.rings.specs.Table.{put, gather}
 use Rattle.rings.proofs.Tables.{put-nothing, length-put, put-more, length-gather}
+use Rattle.rings.proofs.Blocks as B
 use Rattle.meshfile.specs.Blocks.{Put, gatherFrom}
 use Rattle.meshfile.proofs.Gathered.{gather-add, from-add, from-start}
 
@@ -18,8 +19,7 @@ module _ {A : Type 0} where
   put-none {l} {i} h = record { fits = let e = add-zero i in omega arith; is = sym (put-nothing l i) }
 
   pub put-one : {l : List A} {i : ℕ} {a : A} → i < length l → Put l i (a ∷ []) (set l i a)
-  unfolding put
-  put-one {l} {i} {a} h = record { fits = omega arith; is = set-split l i a h ∙ rw add-one }
+  put-one {l} {i} {a} h = record { fits = omega arith; is = B.put-one l i a h }
 
   pub put-length : {l m : List A} {i : ℕ} {a : List A} → Put l i a m → length m ≡ length l
   put-length {l} {m} {i} {a} p = ap length (p .is) ∙ length-put l i a (p .fits)

@@ -1,8 +1,8 @@
 -- The positions after an accepted list of moves, vertex by vertex: the moved control points, and each level refreshed. Assumes nothing.
 use Prim.Native.Nat.{ℕ, zero, suc, _+_, _*_, _≤_, _<_}
-use mathlib.Core.Path.{_≡_, refl, sym, ap, ap₂, _∙_}
-use mathlib.Core.Bool.{Bool, false, cond}
-use mathlib.Core.List.{List, [], _∷_}
+use mathlib.Core.Path.{_≡_, refl, sym, ap, _∙_}
+use mathlib.Core.Bool.{false}
+use mathlib.Core.List.{List}
 use native.Mathlib.Nat.{zero-add}
 use native.Mathlib.Omega.{arith}
 use lib.Dec.{ltb}
@@ -12,40 +12,29 @@ use borrow.Author.Tests.{ltb-false}
 use Rattle.mesh.specs.Search.{sum}
 use Rattle.mesh.specs.Mesh.{Mesh, edges}
 use Rattle.mesh.specs.Refine.{level}
-use Rattle.mesh.specs.Mask.{Steps, Grounded, touched, refreshed}
+use Rattle.mesh.specs.Mask.{refreshed}
 use Rattle.mesh.specs.Loop.{loop}
 use Rattle.mesh.proofs.Levels.{loop-grounded}
-use Rattle.mesh.proofs.Refresh.{byMask-same}
-use Rattle.rings.specs.Table.{rows, coordinateAt, pointRows}
+use Rattle.mesh.proofs.Refresh.{refreshed-same}
+use Rattle.rings.specs.Table.{rows, coordinateAt}
 use Rattle.rings.specs.Verdict.{after}
 use Rattle.rings.specs.declared.Refusal.{Refusal}
 use Rattle.rings.specs.declared.Verdict.the-variants.{Accepted, Refused}
 use Rattle.rings.proofs.Verdicts.{if-accepted, then-accepted}
 use Rattle.map.specs.Map.{wordCount}
 use Rattle.strange.specs.Expected.{whole}
-use Rattle.refine.specs.Stack.{levelStart}
-use Rattle.refine.specs.Accepts.{AcceptsStack}
-use Rattle.refine.specs.Refinement.{stackVerdict}
-use Rattle.refine.proofs.Sizes.{start-suc}
-use Rattle.refine.proofs.AcceptedStack.{stack-only}
+use Rattle.stack_judge.specs.Stack.{levelStart}
+use Rattle.stack_judge.specs.Accepts.{AcceptsStack}
+use Rattle.stack_judge.specs.StackVerdict.{stackVerdict}
+use Rattle.stack_judge.proofs.Sizes.{start-suc}
+use Rattle.stack_judge.proofs.AcceptedStack.{stack-only}
 use Rattle.refine.proofs.StackLevels.{start-is, levels-room}
-use Rattle.refine.proofs.LevelRows as L
 use Rattle.plan.specs.Moves.{Pending, pending, stopped, named, pendingVerdict, pendingPoints}
 use Rattle.refresh.specs.Stack.{refreshedAt, refreshedPositions}
+use Rattle.refresh.proofs.RefreshedPoints.{positions-long, position-at, position-behind}
 use Rattle.moves.specs.Apply.{beforeMoves, moved, applyVerdict, movedControl, applyPositions}
 use Rattle.plan.specs.declared.Move.{Move}
 use Rattle.moves.proofs.ControlPoints.{ChangedAt, run-changes, named-below}
-
--- what a stack holds above level 0 is all that a refresh looks at
-refreshed-above : (S : Steps) → Grounded S → (named : ℕ → Bool) (held held′ : ℕ → ℕ → ℤ) (control : ℕ → ℤ) (top : ℕ)
-    → ((k x : ℕ) → suc k ≤ top → x < S .size (suc k) → held (suc k) x ≡ held′ (suc k) x)
-    → (k x : ℕ) → k ≤ top → x < S .size k → refreshed S named held control k x ≡ refreshed S named held′ control k x
-unfolding refreshed
-refreshed-above S grounded named held held′ control top same zero x h g = refl
-refreshed-above S grounded named held held′ control top same (suc k) x h g =
-    ap₂ (λ (set keep : ℤ). cond (touched S named (suc k) x) set keep)
-    (byMask-same S grounded k x g (refreshed S named held control k) (refreshed S named held′ control k) (λ v l. refreshed-above S grounded named held held′ control top same k v (omega arith) l))
-    (same k x h g)
 
 -- level 0 comes before every other level
 pub control-first : (v e k : ℕ) → v ≤ levelStart v e (suc k)
@@ -101,9 +90,6 @@ module _ (n levels : ℕ) (vs rs : List ℕ) (ps : List ℤ) (map : List ℕ) (m
     abbrev pub point : ℕ → ℕ → ℕ → ℤ
     point axis k x = refreshed (loop M) (named ms) (heldAt n vs rs ps axis) (coordinateAt control axis) k x
 
-    abbrev row : ℕ → ℕ → List ℤ
-    row k x = refreshedAt n vs rs (named ms) control 0 (suc k) x ∷ refreshedAt n vs rs (named ms) control 1 (suc k) x ∷ refreshedAt n vs rs (named ms) control 2 (suc k) x ∷ []
-
     -- only control vertices are named
     pub names-below : (j : ℕ) → n ≤ j → named ms j ≡ false
     unfolding moved
@@ -120,8 +106,9 @@ module _ (n levels : ℕ) (vs rs : List ℕ) (ps : List ℤ) (map : List ℕ) (m
     point-is : (axis : ℕ) → axis < 3 → (k x : ℕ) → k ≤ levels → x < size k → refreshedAt n vs rs (named ms) control axis k x ≡ point axis k x
     unfolding refreshedAt heldAt loop level rows
     point-is axis b k x h g =
-        refreshed-above (loop M) (loop-grounded M (stack-accepted .control .sound)) (named ms) (heldAt n vs rs control axis) (heldAt n vs rs ps axis) (coordinateAt control axis) levels
-        (λ j y i l. kept-above axis b (levelStart n (edges M) (suc j) + y) (let c = control-first n (edges M) j in omega arith)) k x h g
+        refreshed-same (loop M) (loop-grounded M (stack-accepted .control .sound)) (named ms) (named ms) (λ v l. refl) (coordinateAt control axis) (coordinateAt control axis) (λ v l. refl)
+        (heldAt n vs rs control axis) (heldAt n vs rs ps axis) k
+        (λ j y i l. kept-above axis b (levelStart n (edges M) (suc j) + y) (let c = control-first n (edges M) j in omega arith)) x g
 
     room : sum size (suc levels) * 3 ≤ length control
     room =
@@ -131,27 +118,13 @@ module _ (n levels : ℕ) (vs rs : List ℕ) (ps : List ℤ) (map : List ℕ) (m
         let l = control-changes .long in
         omega arith
 
-    positions-are : applyPositions n levels vs rs ps map ms ≡ L.stacked 3 row (λ j x. refl) size control levels room
-    unfolding applyPositions after refreshedPositions pointRows level rows
+    positions-are : applyPositions n levels vs rs ps map ms ≡ refreshedPositions n vs rs (named ms) control levels
+    unfolding applyPositions after
     positions-are = rw accepted
 
-    axis-of : (axis : ℕ) → axis < 3 → (k x : ℕ) → getD (row k x) axis (pos 0) ≡ refreshedAt n vs rs (named ms) control axis (suc k) x
-    axis-of zero h k x = refl
-    axis-of (suc zero) h k x = refl
-    axis-of (suc (suc zero)) h k x = refl
-    axis-of (suc (suc (suc i))) h k x = absurd (omega arith)
-
     at-sum : (axis : ℕ) → axis < 3 → (k x : ℕ) → k ≤ levels → x < size k → coordinateAt (applyPositions n levels vs rs ps map ms) axis (sum size k + x) ≡ point axis k x
-    unfolding coordinateAt refreshed level rows
-    at-sum axis b zero x h g =
-        let e : (0 + x) * 3 + axis ≡ x * 3 + axis = omega arith in
-        ap₂ (λ (t : List ℤ) (p : ℕ). getD t p (pos 0)) positions-are e ∙ L.stacked-before 3 row (λ j x. refl) size control levels room (pos 0) (x * 3 + axis) (omega arith)
-    at-sum axis b (suc k) x h g =
-        let e : (sum size (suc k) + x) * 3 + axis ≡ sum size (suc k) * 3 + (x * 3 + axis) = omega arith in
-        ap₂ (λ (t : List ℤ) (p : ℕ). getD t p (pos 0)) positions-are e
-        ∙ L.stacked-at 3 row (λ j x. refl) size control levels room (pos 0) k x axis h g b
-        ∙ axis-of axis b k x
-        ∙ point-is axis b (suc k) x h g
+    at-sum axis b k x h g =
+        ap (λ (t : List ℤ). coordinateAt t axis (sum size k + x)) positions-are ∙ position-at n vs rs (named ms) control levels room axis b k x h g ∙ point-is axis b k x h g
 
     -- vertex x of level k after the list
     pub after-list : (axis : ℕ) → axis < 3 → (k x : ℕ) → k ≤ levels → x < size k
@@ -167,8 +140,8 @@ module _ (n levels : ℕ) (vs rs : List ℕ) (ps : List ℤ) (map : List ℕ) (m
 
     -- what lies behind the stack stays
     pub behind-stays : (p : ℕ) → sum size (suc levels) * 3 ≤ p → getD (applyPositions n levels vs rs ps map ms) p (pos 0) ≡ getD control p (pos 0)
-    behind-stays p h = ap (λ (t : List ℤ). getD t p (pos 0)) positions-are ∙ L.stacked-behind 3 row (λ j x. refl) size control levels room (pos 0) p h
+    behind-stays p h = ap (λ (t : List ℤ). getD t p (pos 0)) positions-are ∙ position-behind n vs rs (named ms) control levels room p h
 
     -- the table keeps its length
     pub after-length : length (applyPositions n levels vs rs ps map ms) ≡ length ps
-    after-length = ap length positions-are ∙ L.stacked-length 3 row (λ j x. refl) size control levels room ∙ control-changes .long
+    after-length = ap length positions-are ∙ positions-long n vs rs (named ms) control levels room ∙ control-changes .long

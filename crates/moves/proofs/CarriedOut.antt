@@ -22,9 +22,9 @@ use Rattle.units.specs.declared.Point.{Point}
 use Rattle.rings.specs.Table.{rows, coordinateAt, pointAt}
 use Rattle.map.specs.Map.{marked, wordCount, members, emptied, Words}
 use Rattle.map.proofs.Sets.{emptied-in, emptied-out, map-is}
-use Rattle.refine.specs.Stack.{levelCount, levelStart, stackCount}
-use Rattle.refine.specs.Accepts.{AcceptsStack}
-use Rattle.refine.proofs.Sizes.{level-count}
+use Rattle.stack_judge.specs.Stack.{levelCount, levelStart, stackCount}
+use Rattle.stack_judge.specs.Accepts.{AcceptsStack}
+use Rattle.stack_judge.proofs.Sizes.{level-count}
 use Rattle.refine.proofs.StackLevels.{point-part}
 use Rattle.strange.specs.Expected.{whole}
 use Rattle.as_refined.proofs.StackAsRefined.{AsRefined, stack-as-refined}

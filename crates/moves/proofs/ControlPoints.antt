@@ -11,11 +11,11 @@ use lib.ListN.{length}
 use borrow.Author.Tests.{eqb-false, ne-eqb}
 use Rattle.mesh.proofs.First.{or-false, or-both}
 use Rattle.mesh.proofs.Lists.{lt-split, le-split}
-use Rattle.units.specs.Move.{movedTo}
-use Rattle.units.specs.Millimetres.{mmOf}
+use Rattle.millimetres.specs.Move.{movedTo}
+use Rattle.millimetres.specs.Millimetres.{mmOf}
 use Rattle.units.specs.declared.Point.{Point}
-use Rattle.units.specs.declared.Moved.{Moved}
-use Rattle.units.specs.declared.Moved.the-variants.{At, NotFinite, Outside}
+use Rattle.millimetres.specs.declared.Moved.{Moved}
+use Rattle.millimetres.specs.declared.Moved.the-variants.{At, NotFinite, Outside}
 use Rattle.rings.specs.Table.{coordinateAt, pointAt}
 use Rattle.rings.specs.declared.Refusal.{Refusal}
 use Rattle.rings.proofs.Tables.{length-put, put-before, put-behind}

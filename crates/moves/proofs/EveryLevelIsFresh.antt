@@ -21,10 +21,11 @@ use Rattle.rings.specs.Table.{rows, coordinateAt}
 use Rattle.rings.specs.Verdict.{after}
 use Rattle.rings.specs.declared.Verdict.{Verdict}
 use Rattle.rings.specs.declared.Verdict.the-variants.{Accepted, Refused}
-use Rattle.refine.specs.Stack.{levelStart}
-use Rattle.refine.specs.Accepts.{AcceptsStack}
-use Rattle.refine.specs.Refinement.{stackedValences, stackedRings, stackedPositions, stackVerdict, refineValences, refineRings, refinePositions}
-use Rattle.refine.proofs.AcceptedStack.{stack-only}
+use Rattle.stack_judge.specs.Stack.{levelStart}
+use Rattle.stack_judge.specs.Accepts.{AcceptsStack}
+use Rattle.stack_judge.specs.StackVerdict.{stackVerdict}
+use Rattle.refine.specs.Refinement.{stackedValences, stackedRings, stackedPositions, refineValences, refineRings, refinePositions}
+use Rattle.stack_judge.proofs.AcceptedStack.{stack-only}
 use Rattle.refine.proofs.StackLevels.{start-is, level-part, coordinate-at}
 use Rattle.plan.specs.Moves.{named}
 use Rattle.moves.specs.Apply.{applyVerdict, movedControl, applyPositions}

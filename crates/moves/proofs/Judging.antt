@@ -8,6 +8,7 @@ use lib.Dec.{ltb}
 use lib.IntN.{ℤ}
 use lib.ListN.{length, getD}
 use borrow.Author.Tests.{lt-ltb, le-ltb, ltb-false}
+use Rattle.mesh.specs.Limits.{stackBound}
 use Rattle.mesh.proofs.Lists.{sum-bounded}
 use Rattle.mesh.specs.Search.{sum, first}
 use Rattle.mesh.specs.Mesh.{edges}
@@ -19,11 +20,11 @@ use Rattle.rings.specs.declared.Refusal.the-variants.{NoRoom, NotAsRefined, Too
 use Rattle.rings.specs.declared.Verdict.the-variants.{Accepted, Refused}
 use Rattle.rings.proofs.Verdicts.{if-hit, if-pass, at-hit, at-pass, if-accepted, at-accepted, then-accepted}
 use Rattle.map.specs.Map.{wordCount}
-use Rattle.refine.specs.Stack.{levelCount, levelStart, stackCount}
-use Rattle.refine.specs.Accepts.{AcceptsStack}
-use Rattle.refine.specs.Refinement.{stackVerdict}
-use Rattle.refine.proofs.AcceptedStack.{stack-only}
-use Rattle.refine.proofs.Judged.{counted-edges}
+use Rattle.stack_judge.specs.Stack.{levelCount, levelStart, stackCount}
+use Rattle.stack_judge.specs.Accepts.{AcceptsStack}
+use Rattle.stack_judge.specs.StackVerdict.{stackVerdict}
+use Rattle.stack_judge.proofs.AcceptedStack.{stack-only}
+use Rattle.stack_judge.proofs.Judged.{counted-edges}
 use Rattle.strange.specs.Expected.{whole, strange}
 use Rattle.moves.specs.Apply.{beforeMoves}
 
@@ -40,7 +41,7 @@ module _ {n levels : ℕ} {vs rs : List ℕ} {ps : List ℤ} (a : AcceptsStack n
   unfolding whole
   whole-is s w e h = h ∙ ap (λ (x : ℕ). stackCount n x levels) (edges-are s e)
 
-  pub whole-small : whole n levels vs rs ps ≤ 1048576
+  pub whole-small : whole n levels vs rs ps ≤ stackBound
   unfolding whole stackCount levelStart
   whole-small =
       let h = sum-bounded (levelCount n (edges (rows n vs rs))) 65535 (suc levels) (λ i l. a .fits i (omega arith)) in

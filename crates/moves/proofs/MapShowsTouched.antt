@@ -21,9 +21,9 @@ use Rattle.rings.specs.declared.Amount.the-variants.{Of}
 use Rattle.map.specs.Map.{marked, wordCount, mapWords, onesIn, Words}
 use Rattle.map.proofs.Bits.{members-same}
 use Rattle.map.proofs.Sets.{ones-members, words-after, marked-first}
-use Rattle.refine.specs.Stack.{levelStart, stackCount}
-use Rattle.refine.proofs.Sizes.{level-count}
-use Rattle.refine.proofs.StackVertices.{vertex-in, level-of, number-in}
+use Rattle.stack_judge.specs.Stack.{levelStart, stackCount}
+use Rattle.stack_judge.proofs.Sizes.{level-count}
+use Rattle.stack_judge.proofs.StackVertices.{vertex-in, level-of, number-in}
 use Rattle.strange.specs.Expected.{whole}
 use Rattle.refresh.specs.Stack.{TouchedMarked}
 use Rattle.refresh.proofs.TouchedMarks.{marks-counted}

@@ -17,8 +17,8 @@ use Rattle.rings.specs.declared.Verdict.{Verdict}
 use Rattle.rings.specs.declared.Verdict.the-variants.{Accepted}
 use Rattle.rings.specs.declared.Amount.{Amount}
 use Rattle.map.specs.Map.{wordCount, mapWords}
-use Rattle.refine.specs.Stack.{levelOf, numberIn}
-use Rattle.refine.specs.Refinement.{stackVerdict}
+use Rattle.stack_judge.specs.Stack.{levelOf, numberIn}
+use Rattle.stack_judge.specs.StackVerdict.{stackVerdict}
 use Rattle.strange.specs.Expected.{whole, strange}
 use Rattle.refresh.specs.Stack.{refreshedPositions}
 use Rattle.plan.specs.Moves.{Pending, pending, run, named, pendingVerdict, pendingPoints}

@@ -14,13 +14,13 @@ use plan::Move;
 use plan::Plan;
 use plan::list::opened;
 use plan::list::walk;
-use refine::stack::edge_count;
-use refine::stack::judge_stack;
-use refine::stack::stack_count;
 use refresh::stack::refresh_levels;
 use rings::Amount;
 use rings::Refusal;
 use rings::Verdict;
+use stack_judge::edge_count;
+use stack_judge::judge_stack;
+use stack_judge::stack_count;
 
 // What is judged before the first move: 8, the check, 9, 10 for the tables and the map, 11, 12.
 fn judge_before(

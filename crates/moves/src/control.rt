@@ -2,6 +2,7 @@
 ghost use mathlib.Core.Path.{_≡_};
 ghost use Prim.Native.Nat.{_*_, _≤_};
 ghost use lib.ListN.{length};
+ghost use Rattle.mesh.specs.Limits.{stackBound};
 ghost use Rattle.map.specs.Map.{marked};
 ghost use Rattle.plan.specs.Plan.{Fair, planned, laid, withNamed};
 use level::points::set_point;
@@ -13,7 +14,7 @@ pub fn write_control(positions: &mut [i32], map: &mut [u32], plan: Plan)
     requires { ⌜ Fair plan ⌝ }
     requires { ⌜ plan .count * 3 ≤ length (now positions) ⌝ }
     requires { ⌜ plan .count ≤ length (now map) * 32 ⌝ }
-    requires { ⌜ plan .count ≤ 1048576 ⌝ }
+    requires { ⌜ plan .count ≤ stackBound ⌝ }
     ensures { λ _. ⌜ now (positions .exit) ≡ laid (now (positions .entry)) (planned plan) ⌝ }
     ensures { λ _. ⌜ marked (now (map .exit)) ≡ withNamed (marked (now (map .entry))) (planned plan) ⌝ }
 {

@@ -13,15 +13,15 @@ use lib.ListN.{getD, set, length-set}
 use lib.Seq.{getD-set-same, getD-set-other}
 use Rattle.mesh.proofs.First.{true-not-false}
 use Rattle.mesh.proofs.Lists.{eq-split}
-use Rattle.units.specs.Millimetres.{inside, unitsOf, mmOf}
-use Rattle.units.specs.Move.{fit, changedBy, settledAt, movedTo}
-use Rattle.units.specs.declared.Mm.{Mm}
+use Rattle.millimetres.specs.Millimetres.{inside, unitsOf, mmOf}
+use Rattle.millimetres.specs.Move.{fit, changedBy, settledAt, movedTo}
+use Rattle.millimetres.specs.declared.Mm.{Mm}
 use Rattle.units.specs.declared.Point.{Point}
-use Rattle.units.specs.declared.Change.{Change}
-use Rattle.units.specs.declared.Moved.{Moved}
-use Rattle.units.specs.declared.Moved.the-variants.{At, NotFinite, Outside}
-use Rattle.units.proofs.Floats.{units-in}
-use Rattle.units.proofs.MoveCases.{moved-by, settled-by}
+use Rattle.millimetres.specs.declared.Change.{Change}
+use Rattle.millimetres.specs.declared.Moved.{Moved}
+use Rattle.millimetres.specs.declared.Moved.the-variants.{At, NotFinite, Outside}
+use Rattle.millimetres.proofs.FloatsInUnits.{units-in}
+use Rattle.millimetres.proofs.MoveCases.{moved-by, settled-by}
 use Rattle.rings.specs.Verdict.{after}
 use Rattle.rings.specs.declared.Refusal.{Refusal}
 use Rattle.rings.specs.declared.Refusal.the-variants as refusal

@@ -12,7 +12,7 @@ use lib.IntN.{ℤ, pos}
 use lib.ListN.{length, getD, take}
 use Rattle.mesh.proofs.Lists.{eq-split, lt-split}
 use Rattle.units.specs.declared.Point.{Point}
-use Rattle.units.proofs.MoveCases.{point-is}
+use Rattle.millimetres.proofs.MoveCases.{point-is}
 use Rattle.rings.specs.Table.{coordinateAt, pointAt}
 use Rattle.rings.proofs.Tables.{length-put, put-within, put-before, put-behind}
 use Rattle.plan.specs.Moves.{placed}

@@ -16,12 +16,12 @@ use mir.Syntax.{w32}
 use mir.Val.{toZ, ofZ, SFits}
 use mir.ValLaws.{toZ-ofZ}
 use Rattle.units.specs.Coordinate.{beyond}
-use Rattle.units.specs.Millimetres.{mmOf}
-use Rattle.units.specs.Move.{movedTo}
-use Rattle.units.specs.declared.Mm.{Mm}
+use Rattle.millimetres.specs.Millimetres.{mmOf}
+use Rattle.millimetres.specs.Move.{movedTo}
+use Rattle.millimetres.specs.declared.Mm.{Mm}
 use Rattle.units.specs.declared.Point.{Point}
-use Rattle.units.specs.declared.Moved.{Moved}
-use Rattle.units.specs.declared.Moved.the-variants.{At, NotFinite, Outside}
+use Rattle.millimetres.specs.declared.Moved.{Moved}
+use Rattle.millimetres.specs.declared.Moved.the-variants.{At, NotFinite, Outside}
 use Rattle.rings.specs.Table.{pointAt, coordinateAt}
 use Rattle.rings.specs.Verdict.{after}
 use Rattle.rings.specs.declared.Refusal.{Refusal}

@@ -16,11 +16,11 @@ use lib.Seq.{take-suc-set}
 use Rattle.mesh.specs.Limits.{mostMoves}
 use Rattle.mesh.proofs.Lists.{le-split}
 use Rattle.units.specs.Coordinate.{InRange}
-use Rattle.units.specs.Millimetres.{mmOf}
-use Rattle.units.specs.Move.{movedTo}
+use Rattle.millimetres.specs.Millimetres.{mmOf}
+use Rattle.millimetres.specs.Move.{movedTo}
 use Rattle.units.specs.declared.Point.{Point}
-use Rattle.units.specs.declared.Moved.{Moved}
-use Rattle.units.specs.declared.Moved.the-variants.{At, NotFinite, Outside}
+use Rattle.millimetres.specs.declared.Moved.{Moved}
+use Rattle.millimetres.specs.declared.Moved.the-variants.{At, NotFinite, Outside}
 use Rattle.rings.specs.Table.{coordinateAt, pointAt}
 use Rattle.rings.specs.declared.Refusal.{Refusal}
 use Rattle.rings.specs.declared.Refusal.the-variants as refusal

@@ -5,11 +5,11 @@ use mathlib.Core.List.{List, [], _∷_}
 use Prim.Native.Nat.{ℕ, suc, _*_}
 use lib.Dec.{leb, eqb}
 use lib.IntN.{ℤ}
-use Rattle.units.specs.Millimetres.{mmOf}
-use Rattle.units.specs.Move.{movedTo}
+use Rattle.millimetres.specs.Millimetres.{mmOf}
+use Rattle.millimetres.specs.Move.{movedTo}
 use Rattle.units.specs.declared.Point.{Point}
-use Rattle.units.specs.declared.Moved.{Moved}
-use Rattle.units.specs.declared.Moved.the-variants.{At, NotFinite, Outside}
+use Rattle.millimetres.specs.declared.Moved.{Moved}
+use Rattle.millimetres.specs.declared.Moved.the-variants.{At, NotFinite, Outside}
 use Rattle.rings.specs.Table.{put, pointAt}
 use Rattle.rings.specs.declared.Refusal.{Refusal}
 use Rattle.rings.specs.declared.Refusal.the-variants as refusal

@@ -10,11 +10,11 @@ use lib.IntN.{ℤ, pos}
 use lib.ListN.{length, getD, take, set, replicate}
 use Rattle.mesh.specs.Limits.{mostMoves}
 use Rattle.units.specs.Coordinate.{InRange, beyond}
-use Rattle.units.specs.Millimetres.{mmOf}
-use Rattle.units.specs.Move.{movedTo}
+use Rattle.millimetres.specs.Millimetres.{mmOf}
+use Rattle.millimetres.specs.Move.{movedTo}
 use Rattle.units.specs.declared.Point.{Point}
-use Rattle.units.specs.declared.Moved.{Moved}
-use Rattle.units.specs.declared.Moved.the-variants.{At, NotFinite, Outside}
+use Rattle.millimetres.specs.declared.Moved.{Moved}
+use Rattle.millimetres.specs.declared.Moved.the-variants.{At, NotFinite, Outside}
 use Rattle.rings.specs.Table.{pointAt}
 use Rattle.rings.specs.Verdict.{after}
 use Rattle.rings.specs.declared.Refusal.{Refusal}

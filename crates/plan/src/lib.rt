@@ -1,8 +1,8 @@
 // A list of moves worked out, one move after the other, into a plan. Nothing is written here.
 pub mod list;
 
+use millimetres::Change;
 use rings::Verdict;
-use units::Change;
 use units::Point;
 
 // The longest list of moves.

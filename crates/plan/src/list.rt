@@ -2,6 +2,7 @@
 ghost use mathlib.Core.Path.{_≡_};
 ghost use Prim.Native.Nat.{_≤_, _<_};
 ghost use lib.ListN.{take};
+ghost use Rattle.mesh.specs.Limits.{mostMoves};
 ghost use Rattle.units.specs.Coordinate.{InRange};
 ghost use Rattle.plan.specs.Plan.{emptyPlan, readPoint, keptPoint, latestPoint, currentPoint, notedIn, refusedIn, takenIn, stepOf, walkOf};
 use super::Entry;
@@ -9,12 +10,12 @@ use super::MOST_MOVES;
 use super::Move;
 use super::Plan;
 use mesh_check::positions::is_beyond;
+use millimetres::Moved;
+use millimetres::mm_of;
+use millimetres::moved_point;
 use rings::Refusal;
 use rings::Verdict;
-use units::Moved;
 use units::Point;
-use units::mm_of;
-use units::moved_point;
 
 // The plan before the first move.
 pub fn opened(count: usize) -> Plan
@@ -64,7 +65,7 @@ fn kept(point: Point) -> Point
 
 // Where v is after the first `taken` entries: at the point of its latest one, or where it was.
 fn latest(entries: [Entry; 64], taken: usize, v: usize, from: Point) -> Point
-    requires { ⌜ taken ≤ 64 ⌝ }
+    requires { ⌜ taken ≤ mostMoves ⌝ }
     ensures { λ r. ⌜ r ≡ latestPoint (take taken entries) v from ⌝ }
 {
     let mut point = from;
@@ -81,7 +82,7 @@ fn latest(entries: [Entry; 64], taken: usize, v: usize, from: Point) -> Point
 
 // The plan with a move's vertex at its new point.
 fn noted(plan: Plan, vertex: u32, point: Point) -> Plan
-    requires { ⌜ plan .taken < 64 ⌝ }
+    requires { ⌜ plan .taken < mostMoves ⌝ }
     ensures { λ r. ⌜ r ≡ notedIn plan vertex point ⌝ }
 {
     let k = plan.taken;
@@ -110,7 +111,7 @@ fn refused(plan: Plan, reason: Refusal) -> Plan
 
 // The move of a vertex of the mesh: 13, 14, or an entry.
 fn take_move(positions: &[i32], plan: Plan, m: Move) -> Plan
-    requires { ⌜ plan .taken < 64 ⌝ }
+    requires { ⌜ plan .taken < mostMoves ⌝ }
     ensures { λ r. ⌜ r ≡ takenIn (now (positions .entry)) plan m ⌝ }
 {
     let place = plan.taken;

@@ -7,6 +7,7 @@ use native.Mathlib.Omega.{arith}
 use lib.IntN.{ℤ}
 use lib.ListN.{length, getD, drop, length-drop}
 use lib.Seq.{getD-drop}
+use Rattle.mesh.specs.Limits.{mostUnits}
 use Rattle.mesh.specs.Search.{sum}
 use Rattle.mesh.specs.Mesh.{Mesh, Sound, edges}
 use Rattle.mesh.specs.Refine.{refine, level}
@@ -20,10 +21,10 @@ use Rattle.rings.specs.Table.{put, rows, valenceRows, ringRows, coordinateAt, p
 use Rattle.rings.specs.Accepts.{Room}
 use Rattle.rings.proofs.Tables.{gather-same}
 use Rattle.level.specs.Level.{Levels, nextPoint, valencesUpTo, ringsUpTo, positionsUpTo}
-use Rattle.refine.specs.Stack.{stackCount}
-use Rattle.refine.specs.Accepts.{AcceptsStack}
+use Rattle.stack_judge.specs.Stack.{stackCount}
+use Rattle.stack_judge.specs.Accepts.{AcceptsStack}
 use Rattle.refine.specs.Refinement.{stackedValences, stackedRings, stackedPositions}
-use Rattle.refine.proofs.Sizes.{level-count}
+use Rattle.stack_judge.proofs.Sizes.{level-count}
 use Rattle.refine.proofs.StackLevels as T
 
 -- rows of points by their coordinates
@@ -46,7 +47,7 @@ module _ (n levels : ℕ) (vs rs : List ℕ) (ps : List ℤ) (a : AcceptsStack n
   -- a coordinate of any level is in the range
   pub level-near : (axis : ℕ) → axis < 3 → (k x : ℕ) → x < size k → InRange (refined (loop M) (coordinateAt ps axis) k x)
   unfolding rows
-  level-near axis b k x h = range-is-kept M S (coordinateAt ps axis) 1048576 (λ v g. a .control .near v g axis b) k x h
+  level-near axis b k x h = range-is-kept M S (coordinateAt ps axis) mostUnits (λ v g. a .control .near v g axis b) k x h
 
   module _ (k : ℕ) (l : k < levels) where
     abbrev vk : List ℕ

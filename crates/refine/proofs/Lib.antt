@@ -1,14 +1,9 @@
 -- Laws on the stack; the theorems that a reader wants come first.
-pub mod AcceptedStack
 pub mod StackIsRefined
 pub mod StackStaysInHull
 pub mod StackKeeps
 pub mod OneOutcome
 pub mod OnlyControlIsRead
-pub mod StackVertices
-pub mod Sizes
-pub mod Judged
-pub mod LevelRows
 pub mod StackLevels
 pub mod LevelWritten
 pub mod WrittenLevels

@@ -27,9 +27,10 @@ use Rattle.rings.specs.declared.Refusal.{Refusal}
 use Rattle.rings.specs.declared.Refusal.the-variants.{ImproperRing, OneSided, OpenFace, TooFar}
 use Rattle.rings.specs.declared.Verdict.{Verdict}
 use Rattle.rings.specs.declared.Verdict.the-variants.{Accepted}
-use Rattle.refine.specs.Stack.{levelStart, stackCount, shortStack}
-use Rattle.refine.specs.Refinement.{stackVerdict, refineAnswer, refineValences, refineRings, refinePositions}
-use Rattle.refine.proofs.AcceptedStack.{stack-only}
+use Rattle.stack_judge.specs.Stack.{levelStart, stackCount, shortStack}
+use Rattle.stack_judge.specs.StackVerdict.{stackVerdict}
+use Rattle.refine.specs.Refinement.{refineAnswer, refineValences, refineRings, refinePositions}
+use Rattle.stack_judge.proofs.AcceptedStack.{stack-only}
 use Rattle.refine.proofs.StackIsRefined.{valence-is-refined, ring-is-refined, point-is-refined}
 
 -- ---- tests that agree

@@ -13,9 +13,10 @@ use Rattle.rings.specs.declared.Verdict.{Verdict}
 use Rattle.rings.specs.declared.Verdict.the-variants.{Accepted, Refused}
 use Rattle.rings.specs.declared.Counted.the-variants.{Counts}
 use Rattle.rings.specs.declared.Counted.the-variants as counted
-use Rattle.refine.specs.Accepts.{AcceptsStack}
-use Rattle.refine.specs.Refinement.{stackedValences, stackedRings, stackedPositions, stackVerdict, refineAnswer, refineValences, refineRings, refinePositions}
-use Rattle.refine.proofs.AcceptedStack.{stack-only}
+use Rattle.stack_judge.specs.Accepts.{AcceptsStack}
+use Rattle.stack_judge.specs.StackVerdict.{stackVerdict}
+use Rattle.refine.specs.Refinement.{stackedValences, stackedRings, stackedPositions, refineAnswer, refineValences, refineRings, refinePositions}
+use Rattle.stack_judge.proofs.AcceptedStack.{stack-only}
 
 module _ (n levels : ℕ) (vs rs : List ℕ) (ps : List ℤ) where
   module _ (r : Refusal) (e : Refused r ≡ stackVerdict n levels vs rs ps) where

@@ -15,10 +15,11 @@ use Rattle.mesh.specs.Loop.{loop}
 use Rattle.mesh.proofs.RefinementKeepsSoundness as K
 use Rattle.rings.specs.Table.{ringOf, rows, padded, coordinateAt}
 use Rattle.rings.specs.declared.Verdict.the-variants.{Accepted}
-use Rattle.refine.specs.Stack.{levelStart}
-use Rattle.refine.specs.Accepts.{AcceptsStack}
-use Rattle.refine.specs.Refinement.{stackedValences, stackedRings, stackedPositions, stackVerdict, refineValences, refineRings, refinePositions}
-use Rattle.refine.proofs.AcceptedStack.{stack-only}
+use Rattle.stack_judge.specs.Stack.{levelStart}
+use Rattle.stack_judge.specs.Accepts.{AcceptsStack}
+use Rattle.stack_judge.specs.StackVerdict.{stackVerdict}
+use Rattle.refine.specs.Refinement.{stackedValences, stackedRings, stackedPositions, refineValences, refineRings, refinePositions}
+use Rattle.stack_judge.proofs.AcceptedStack.{stack-only}
 use Rattle.refine.proofs.RefineAnswers.{accepted-valences, accepted-rings, accepted-positions}
 use Rattle.refine.proofs.StackLevels as T
 

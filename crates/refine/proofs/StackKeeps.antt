@@ -11,8 +11,8 @@ use Rattle.mesh.specs.Search.{sum}
 use Rattle.mesh.specs.Mesh.{edges}
 use Rattle.mesh.specs.Refine.{level}
 use Rattle.rings.specs.Table.{rows}
-use Rattle.refine.specs.Stack.{stackCount}
-use Rattle.refine.specs.Accepts.{AcceptsStack}
+use Rattle.stack_judge.specs.Stack.{stackCount}
+use Rattle.stack_judge.specs.Accepts.{AcceptsStack}
 use Rattle.refine.specs.Refinement.{stackedValences, stackedRings, stackedPositions, refineValences, refineRings, refinePositions}
 use Rattle.refine.proofs.RefineAnswers.{by-verdict}
 use Rattle.refine.proofs.StackLevels as T

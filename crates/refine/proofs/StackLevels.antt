@@ -23,13 +23,13 @@ use Rattle.mesh.proofs.Refined.{mesh-same}
 use Rattle.rings.specs.Table.{gather, put, ringOf, rows, padded, valenceRows, ringRows, coordinateAt, pointRows}
 use Rattle.rings.proofs.Rows.{rows-ring, row-length, room-row}
 use Rattle.rings.proofs.Tables.{length-padded}
-use Rattle.level.proofs.Written.{padded-at}
+use Rattle.rings.proofs.Blocks.{padded-at}
 use Rattle.level.proofs.NextLevel.{short-ring}
-use Rattle.refine.specs.Stack.{levelCount, levelStart, stackCount}
-use Rattle.refine.specs.Accepts.{AcceptsStack}
+use Rattle.stack_judge.specs.Stack.{levelCount, levelStart, stackCount}
+use Rattle.stack_judge.specs.Accepts.{AcceptsStack}
 use Rattle.refine.specs.Refinement.{stackedValences, stackedRings, stackedPositions}
-use Rattle.refine.proofs.Sizes.{level-count}
-use Rattle.refine.proofs.LevelRows as L
+use Rattle.stack_judge.proofs.Sizes.{level-count}
+use Rattle.rings.proofs.LevelRows as L
 
 -- ---- rows of a level
 

@@ -3,6 +3,7 @@ use mathlib.Core.Path.{_≡_, sym, subst}
 use mathlib.Core.List.{List}
 use Prim.Native.Nat.{ℕ, _+_, _≤_, _<_}
 use lib.IntN.{ℤ}
+use Rattle.mesh.specs.Limits.{mostUnits}
 use Rattle.mesh.specs.Mesh.{edges}
 use Rattle.mesh.specs.Refine.{level}
 use Rattle.mesh.proofs.Hull.{Within}
@@ -10,10 +11,11 @@ use Rattle.mesh.proofs.PointsStayInHull.{points-stay-in-hull, range-is-kept}
 use Rattle.units.specs.Coordinate.{InRange}
 use Rattle.rings.specs.Table.{rows, coordinateAt}
 use Rattle.rings.specs.declared.Verdict.the-variants.{Accepted}
-use Rattle.refine.specs.Stack.{levelStart}
-use Rattle.refine.specs.Accepts.{AcceptsStack}
-use Rattle.refine.specs.Refinement.{stackVerdict, refinePositions}
-use Rattle.refine.proofs.AcceptedStack.{stack-only}
+use Rattle.stack_judge.specs.Stack.{levelStart}
+use Rattle.stack_judge.specs.Accepts.{AcceptsStack}
+use Rattle.stack_judge.specs.StackVerdict.{stackVerdict}
+use Rattle.refine.specs.Refinement.{refinePositions}
+use Rattle.stack_judge.proofs.AcceptedStack.{stack-only}
 use Rattle.refine.proofs.StackIsRefined.{point-is-refined}
 
 module _ (n levels : ℕ) (vs rs : List ℕ) (ps : List ℤ) (accepted : Accepted ≡ stackVerdict n levels vs rs ps) (axis : ℕ) (b : axis < 3) where
@@ -33,4 +35,4 @@ module _ (n levels : ℕ) (vs rs : List ℕ) (ps : List ℤ) (accepted : Accepte
   unfolding rows
   stack-stays-in-range k x l h =
       subst InRange (sym (point-is-refined n levels vs rs ps accepted k x l h axis b))
-      (range-is-kept (rows n vs rs) (a .control .sound) (coordinateAt ps axis) 1048576 (λ v g. a .control .near v g axis b) k x h)
+      (range-is-kept (rows n vs rs) (a .control .sound) (coordinateAt ps axis) mostUnits (λ v g. a .control .near v g axis b) k x h)

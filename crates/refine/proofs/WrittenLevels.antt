@@ -16,11 +16,11 @@ use Rattle.rings.specs.Table.{put, rows, valenceRows, ringRows, coordinateAt, p
 use Rattle.rings.specs.declared.Counted.the-variants.{Counts}
 use Rattle.rings.proofs.Tables.{put-nothing}
 use Rattle.level.specs.Level.{Levels, valencesUpTo, ringsUpTo, positionsUpTo}
-use Rattle.refine.specs.Stack.{levelStart}
-use Rattle.refine.specs.Accepts.{AcceptsStack}
+use Rattle.stack_judge.specs.Stack.{levelStart}
+use Rattle.stack_judge.specs.Accepts.{AcceptsStack}
 use Rattle.refine.specs.Refinement.{stackedValences, stackedRings, stackedPositions}
-use Rattle.refine.proofs.Sizes.{Sized, sized-none, sized-more, sized-small, start-none, start-more, start-small, level-count, level-edges}
-use Rattle.refine.proofs.LevelRows.{part-is}
+use Rattle.stack_judge.proofs.Sizes.{Sized, sized-none, sized-more, sized-small, start-none, start-more, start-small, level-count, level-edges}
+use Rattle.rings.proofs.LevelRows.{part-is}
 use Rattle.refine.proofs.StackLevels as T
 use Rattle.refine.proofs.LevelWritten.{part-levels, valences-written, rings-written, positions-written}
 

@@ -1,4 +1,2 @@
--- The stack, and the whole refinement.
-pub mod Stack
-pub mod Accepts
+-- The whole refinement.
 pub mod Refinement

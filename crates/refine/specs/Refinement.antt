@@ -1,5 +1,5 @@
--- The call `refine` (document 01, "What comes back when we say no" and "Refinement, one level"): what is refused, in which order, what is answered,
--- and the three tables after the call. Assumes nothing.
+-- The call `refine` (document 01, "What comes back when we say no" and "Refinement, one level"): what is answered, and the three tables after the call.
+-- Assumes nothing.
 use mathlib.Core.List.{List}
 use Prim.Native.Nat.{ℕ, suc, _*_}
 use lib.IntN.{ℤ}
@@ -15,7 +15,7 @@ use Rattle.rings.specs.declared.Refusal.the-variants.{BadLevels, LevelTooLarge,
 use Rattle.rings.specs.declared.Verdict.{Verdict}
 use Rattle.rings.specs.declared.Verdict.the-variants.{Accepted}
 use Rattle.rings.specs.declared.Counted.{Counted}
-use Rattle.refine.specs.Stack.{stackCount, badLevels, tooLarge, shortStack}
+use Rattle.stack_judge.specs.StackVerdict.{stackVerdict}
 
 -- the tables once levels 1 to k stand right behind level 0; all else is as it was
 module _ (n k : ℕ) (vs rs : List ℕ) where
@@ -34,30 +34,21 @@ module _ (n k : ℕ) (vs rs : List ℕ) where
 
 module _ (n levels : ℕ) (vs rs : List ℕ) (ps : List ℤ) where
   -- the control mesh
-  abbrev pub control : Mesh
+  abbrev control : Mesh
   control = rows n vs rs
-
-  -- 8, then the check, then 9 over levels 0 to L, then 10
-  unfoldable pub stackVerdict : Verdict
-  stackVerdict =
-      refuseIf (badLevels levels) BadLevels
-      (andThen (checkVerdict n vs rs ps)
-      (refuseAt (tooLarge n (edges control)) (suc levels) LevelTooLarge
-      (refuseIf (shortStack (stackCount n (edges control) levels) vs rs ps) NoRoom
-      Accepted)))
 
   -- what refinement answers: V, E and F of level L
   unfoldable pub refineAnswer : Counted
-  refineAnswer = withCounts stackVerdict (level control levels .count) (edges (level control levels)) (faces (level control levels))
+  refineAnswer = withCounts (stackVerdict n levels vs rs ps) (level control levels .count) (edges (level control levels)) (faces (level control levels))
 
   -- the tables after the call: all levels written where it is accepted
   unfoldable pub refineValences : List ℕ
-  refineValences = after stackVerdict (stackedValences n levels vs rs) vs
+  refineValences = after (stackVerdict n levels vs rs ps) (stackedValences n levels vs rs) vs
 
   -- the rings after the call
   unfoldable pub refineRings : List ℕ
-  refineRings = after stackVerdict (stackedRings n levels vs rs) rs
+  refineRings = after (stackVerdict n levels vs rs ps) (stackedRings n levels vs rs) rs
 
   -- the positions after the call
   unfoldable pub refinePositions : List ℤ
-  refinePositions = after stackVerdict (stackedPositions n levels vs rs ps) ps
+  refinePositions = after (stackVerdict n levels vs rs ps) (stackedPositions n levels vs rs ps) ps

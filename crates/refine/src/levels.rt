@@ -4,11 +4,11 @@ ghost use Rattle.mesh.specs.Mesh.{edges, faces};
 ghost use Rattle.mesh.specs.Refine.{level};
 ghost use Rattle.rings.specs.Table.{rows};
 ghost use Rattle.rings.specs.declared.Counted.the-variants.{Counts};
-ghost use Rattle.refine.specs.Accepts.{AcceptsStack};
+ghost use Rattle.stack_judge.specs.Accepts.{AcceptsStack};
 ghost use Rattle.refine.specs.Refinement.{stackedValences, stackedRings, stackedPositions};
-use super::stack::edge_count;
 use rings::Counted;
 use rings::MOST_VALENCE;
+use stack_judge::edge_count;
 use sweep::write::write_level;
 
 // Writes levels 1 to L right behind level 0; answers V, E and F of level L.

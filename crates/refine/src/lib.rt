@@ -1,20 +1,12 @@
-// The stack of levels in the lent tables: its judgement, and the whole refinement.
+// The whole refinement, in the lent tables.
 ghost use mathlib.Core.Path.{_≡_};
 ghost use Rattle.refine.specs.Refinement.{refineAnswer, refineValences, refineRings, refinePositions};
 use levels::write_levels;
 use rings::Counted;
 use rings::Verdict;
-use stack::judge_stack;
+use stack_judge::judge_stack;
 
 pub mod levels;
-pub mod stack;
-
-// The limits that the code names.
-pub const LEAST_LEVELS: usize = 1;
-
-pub const MOST_LEVELS: usize = 4;
-
-pub const MOST_VERTICES: usize = 65535;
 
 // Refines the control mesh `levels` times, right behind it in the same tables. Refused, it writes nothing.
 pub fn refine(

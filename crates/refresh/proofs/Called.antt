@@ -1,24 +1,24 @@
 -- For a caller of the refresh: how a stack is ready, and the outcome said of any set that names the same control vertices and of what the upper levels held before
 -- the control points were moved. Assumes nothing.
-use Prim.Native.Nat.{ℕ, zero, suc, _+_, _*_, _<_}
-use mathlib.Core.Path.{_≡_, refl, ap, ap₂, _∙_}
-use mathlib.Core.Bool.{Bool, cond}
+use Prim.Native.Nat.{ℕ, suc, _+_, _*_, _<_}
+use mathlib.Core.Path.{_≡_, refl, ap, _∙_}
+use mathlib.Core.Bool.{Bool}
 use mathlib.Core.List.{List}
 use native.Mathlib.Omega.{arith}
 use lib.IntN.{ℤ}
 use lib.ListN.{length}
 use Rattle.mesh.specs.Mesh.{edges}
 use Rattle.mesh.specs.Refine.{level}
-use Rattle.mesh.specs.Mask.{Steps, Grounded, touched, refreshed}
+use Rattle.mesh.specs.Mask.{touched, refreshed}
 use Rattle.mesh.specs.Loop.{loop}
 use Rattle.mesh.proofs.Levels.{loop-grounded}
-use Rattle.mesh.proofs.Refresh.{byMask-same}
+use Rattle.mesh.proofs.Refresh.{refreshed-same}
 use Rattle.mesh.proofs.TouchedPoints.{touched-same}
 use Rattle.units.specs.Coordinate.{InRange}
 use Rattle.rings.specs.Table.{put, gather, rows, coordinateAt, pointRows}
 use Rattle.rings.proofs.Tables.{gather-same}
-use Rattle.refine.specs.Stack.{levelStart, stackCount, levelOf, numberIn}
-use Rattle.refine.specs.Accepts.{AcceptsStack}
+use Rattle.stack_judge.specs.Stack.{levelStart, stackCount, levelOf, numberIn}
+use Rattle.stack_judge.specs.Accepts.{AcceptsStack}
 use Rattle.refresh.specs.Stack.{TouchedMarked, refreshedAt, refreshedPositions}
 use Rattle.touched.proofs.Renewed.{three}
 use Rattle.refresh.proofs.TouchedMarks.{vertex-of, mark-of}
@@ -39,19 +39,7 @@ module _ {n levels : ℕ} {vs rs : List ℕ} {ps : List ℤ} (a : AcceptsStack n
         points = rw e (a .points);
       }
 
--- ---- what a refresh depends on: the named control vertices, the control points, and what is held above level 0
-
-module _ (S : Steps) (grounded : Grounded S) (named named′ : ℕ → Bool) (same : (v : ℕ) → v < S .size 0 → named v ≡ named′ v)
-    (held held′ : ℕ → ℕ → ℤ) (control : ℕ → ℤ) where
-  refreshed-again : (k : ℕ) → ((j x : ℕ) → j < k → x < S .size (suc j) → held (suc j) x ≡ held′ (suc j) x)
-      → (x : ℕ) → x < S .size k → refreshed S named held control k x ≡ refreshed S named′ held′ control k x
-  unfolding refreshed
-  refreshed-again zero was x h = refl
-  refreshed-again (suc k) was x h =
-      rw (touched-same S grounded named named′ same (suc k) x h)
-      (ap₂ (λ (a b : ℤ). cond (touched S named′ (suc k) x) a b)
-      (byMask-same S grounded k x h (refreshed S named held control k) (refreshed S named′ held′ control k) (refreshed-again k (λ j y l. was j y (omega arith))))
-      (was k x (omega arith) h))
+-- ---- the outcome said of other sets and other holdings
 
 module _ {n levels : ℕ} {vs rs : List ℕ} {ps : List ℤ} (a : AcceptsStack n levels vs rs ps) {before : ℕ → Bool} (named : ℕ → Bool) (same : (v : ℕ) → v < n → before v ≡ named v) where
   -- the positions, with what was held above level 0 given
@@ -69,9 +57,8 @@ module _ {n levels : ℕ} {vs rs : List ℕ} {ps : List ℤ} (a : AcceptsStack n
           → refreshed (loop (rows n vs rs)) before (λ j y. coordinateAt ps axis (levelStart n (edges (rows n vs rs)) j + y)) (coordinateAt ps axis) (suc k) x
           ≡ refreshed (loop (rows n vs rs)) named (held axis) (coordinateAt ps axis) (suc k) x
       again axis k l x h =
-          refreshed-again (loop (rows n vs rs)) (loop-grounded (rows n vs rs) (a .control .sound)) before named same
-          (λ j y. coordinateAt ps axis (levelStart n (edges (rows n vs rs)) j + y)) (held axis) (coordinateAt ps axis) (suc k)
-          (λ j y m g. was axis j y (omega arith) g) x h
+          refreshed-same (loop (rows n vs rs)) (loop-grounded (rows n vs rs) (a .control .sound)) before named same (coordinateAt ps axis) (coordinateAt ps axis) (λ v l. refl)
+          (λ j y. coordinateAt ps axis (levelStart n (edges (rows n vs rs)) j + y)) (held axis) (suc k) (λ j y m g. was axis j y (omega arith) g) x h
 
   -- the mark of stack vertex j
   pub mark-by : {after : ℕ → Bool} → TouchedMarked n levels vs rs before after → (j : ℕ) → j < stackCount n (edges (rows n vs rs)) levels

@@ -2,21 +2,22 @@
 use Prim.Native.Nat.{ℕ, zero, suc, _+_, _-_, _*_, _≤_, _<_}
 use mathlib.Core.Path.{_≡_, refl, sym, ap, ap₂, subst, _∙_}
 use mathlib.Core.Bool.{Bool, true, false, cond}
-use mathlib.Core.List.{List, [], _∷_}
+use mathlib.Core.List.{List}
 use mathlib.Core.Logic.{⊎-elim}
 use native.Mathlib.Nat.{zero-add}
 use native.Mathlib.Numerals.{add-one}
 use native.Mathlib.Omega.{arith}
 use lib.IntN.{ℤ, pos, subℕ}
-use lib.ListN.{length, getD, take, drop, length-drop}
+use lib.ListN.{length, take, drop, length-drop}
 use lib.Seq.{getD-drop}
 use borrow.Rule.Slice.PartMut.{putMid}
+use Rattle.mesh.specs.Limits.{mostUnits}
 use Rattle.mesh.specs.Search.{sum}
 use Rattle.mesh.specs.Mesh.{Mesh, Sound, edges}
 use Rattle.mesh.specs.Refine.{refine, level}
 use Rattle.mesh.specs.Mask.{byMask, touched, refreshed}
 use Rattle.mesh.specs.Loop.{loopMask, loop}
-use Rattle.mesh.proofs.Lists.{lt-split, climbs}
+use Rattle.mesh.proofs.Lists.{lt-split, climbs, sum-bounded}
 use Rattle.mesh.proofs.Lifted.{near-both, both-near}
 use Rattle.mesh.proofs.Hull.{mean-within}
 use Rattle.mesh.proofs.Means.{loop-mean}
@@ -29,24 +30,24 @@ use Rattle.rings.proofs.Rows.{rows-ring}
 use Rattle.rings.proofs.Tables.{put-nothing, gather-same}
 use Rattle.map.specs.Map.{marked}
 use Rattle.level.specs.Level.{Levels, nextPoint}
-use Rattle.refine.specs.Stack.{levelStart, stackCount}
-use Rattle.refine.proofs.Sizes.{level-count}
+use Rattle.stack_judge.specs.Stack.{levelStart, stackCount}
+use Rattle.stack_judge.proofs.Sizes.{level-count}
 use Rattle.refine.proofs.StackLevels.{start-is, levels-room, ring-part, point-part}
-use Rattle.mesh.proofs.Lists.{sum-bounded}
 use Rattle.touched.specs.NextLevel.{from, touchedNext, renewed, marksUpTo, pointsUpTo, InMap, NextRings, NextUnmarked}
 use Rattle.refresh.specs.Stack.{StackReady, MapReady, TouchedMarked, refreshedAt, refreshedPositions}
 use Rattle.touched.proofs.Touched.{next-same}
 use Rattle.touched.proofs.Renewed.{marks-before, marks-at, marks-behind, three}
-use Rattle.refine.proofs.LevelRows as L
+use Rattle.rings.proofs.LevelRows as L
+use Rattle.refresh.proofs.RefreshedPoints as P
 
 -- a point of the next level is in range where those of this one are
 mean-near : (N : Mesh) → Sound N → (x : ℕ) → x < N .count + edges N → (at : ℕ → ℤ) → ((v : ℕ) → v < N .count → InRange (at v)) → InRange (byMask (loopMask N x) at)
 unfolding loop level refine
 mean-near N T x h at near =
-    let w = mean-within (subℕ 0 1048576) (pos 1048576) (N .count) at
-    (λ v g. let c = near-both 1048576 (at v) (near v g) in record { low = c .0; high = c .1 })
+    let w = mean-within (subℕ 0 mostUnits) (pos mostUnits) (N .count) at
+    (λ v g. let c = near-both mostUnits (at v) (near v g) in record { low = c .0; high = c .1 })
     (loopMask N x) (loop-mean N T x) (loop-grounded N T 0 x h) in
-    both-near 1048576 (byMask (loopMask N x) at) (w .low) (w .high)
+    both-near mostUnits (byMask (loopMask N x) at) (w .low) (w .high)
 
 -- levels 1 to k are refreshed: level k begins at `base`, with `count` vertices and `e` edges
 pub record Raised (n : ℕ) (vs rs : List ℕ) (ps₀ : List ℤ) (map₀ : List ℕ) (k base count e : ℕ) (map : List ℕ) (ps : List ℤ) : Type 0 where
@@ -126,7 +127,7 @@ module _ {n e levels : ℕ} {vs rs : List ℕ} {ps₀ : List ℤ} (R : StackRead
     point axis k x = refreshedAt n vs rs before ps₀ axis k x
 
     abbrev row : ℕ → ℕ → List ℤ
-    row k x = point 0 (suc k) x ∷ point 1 (suc k) x ∷ point 2 (suc k) x ∷ []
+    row = P.row n vs rs before ps₀
 
     -- ---- every refreshed coordinate is in range
 
@@ -143,42 +144,8 @@ module _ {n e levels : ℕ} {vs rs : List ℕ} {ps₀ : List ℤ} (R : StackRead
         go true mean held = mean
         go false mean held = held
 
-    -- ---- what stands in the positions
-
     room : (k : ℕ) → k ≤ levels → sum size (suc k) * 3 ≤ length ps₀
     room k l = let r = levels-room n levels vs rs ps₀ (R .accepted) k l in let p = R .accepted .points in omega arith
-
-    module _ (k : ℕ) (l : k ≤ levels) where
-      positions-are : refreshedPositions n vs rs before ps₀ k ≡ L.stacked 3 row (λ j x. refl) size ps₀ k (room k l)
-      unfolding refreshedPositions pointRows level rows
-      positions-are = refl
-
-      positions-long : length (refreshedPositions n vs rs before ps₀ k) ≡ length ps₀
-      positions-long = ap length positions-are ∙ L.stacked-length 3 row (λ j x. refl) size ps₀ k (room k l)
-
-      axis-of : (axis : ℕ) → axis < 3 → (j x : ℕ) → getD (row j x) axis (pos 0) ≡ point axis (suc j) x
-      axis-of zero h j x = refl
-      axis-of (suc zero) h j x = refl
-      axis-of (suc (suc zero)) h j x = refl
-      axis-of (suc (suc (suc i))) h j x = absurd (omega arith)
-
-      -- vertex x of level j, for j up to k
-      position-at : (axis : ℕ) → axis < 3 → (j x : ℕ) → j ≤ k → x < size j → coordinateAt (refreshedPositions n vs rs before ps₀ k) axis (sum size j + x) ≡ point axis j x
-      unfolding coordinateAt refreshedAt refreshed level rows
-      position-at axis b zero x h g =
-          let e : (0 + x) * 3 + axis ≡ x * 3 + axis = omega arith in
-          ap₂ (λ (t : List ℤ) (p : ℕ). getD t p (pos 0)) positions-are e ∙ L.stacked-before 3 row (λ j x. refl) size ps₀ k (room k l) (pos 0) (x * 3 + axis) (omega arith)
-      position-at axis b (suc j) x h g =
-          let e : (sum size (suc j) + x) * 3 + axis ≡ sum size (suc j) * 3 + (x * 3 + axis) = omega arith in
-          ap₂ (λ (t : List ℤ) (p : ℕ). getD t p (pos 0)) positions-are e
-          ∙ L.stacked-at 3 row (λ j x. refl) size ps₀ k (room k l) (pos 0) j x axis h g b
-          ∙ axis-of axis b j x
-
-      -- behind level k
-      position-behind : (axis v : ℕ) → sum size (suc k) ≤ v → coordinateAt (refreshedPositions n vs rs before ps₀ k) axis v ≡ coordinateAt ps₀ axis v
-      unfolding coordinateAt
-      position-behind axis v h =
-          ap (λ (t : List ℤ). getD t (v * 3 + axis) (pos 0)) positions-are ∙ L.stacked-behind 3 row (λ j x. refl) size ps₀ k (room k l) (pos 0) (v * 3 + axis) (omega arith)
 
     -- ---- one level more
 
@@ -198,7 +165,7 @@ module _ {n e levels : ℕ} {vs rs : List ℕ} {ps₀ : List ℤ} (R : StackRead
       part = take (length ps - base * 3) (drop (base * 3) ps)
 
       raised-long : length ps ≡ length ps₀
-      raised-long = ap length (g .points) ∙ positions-long k (omega arith)
+      raised-long = ap length (g .points) ∙ P.positions-long n vs rs before ps₀ k (room k (omega arith))
 
       part-begins : base * 3 ≤ length ps
       part-begins = let s = raised-sizes in let e = raised-long in let p = R .accepted .points in omega arith
@@ -212,14 +179,16 @@ module _ {n e levels : ℕ} {vs rs : List ℕ} {ps₀ : List ℤ} (R : StackRead
       -- this level's points, and what the next level holds
       point-here : (axis : ℕ) → axis < 3 → (v : ℕ) → v < size k → coordinateAt part axis v ≡ point axis k v
       point-here axis b v h =
-          part-at axis v ∙ ap₂ (λ (t : List ℤ) (i : ℕ). coordinateAt t axis (i + v)) (g .points) (g .start) ∙ position-at k (omega arith) axis b k v (omega arith) h
+          part-at axis v ∙ ap₂ (λ (t : List ℤ) (i : ℕ). coordinateAt t axis (i + v)) (g .points) (g .start)
+          ∙ P.position-at n vs rs before ps₀ k (room k (omega arith)) axis b k v (omega arith) h
 
       point-next : (axis x : ℕ) → coordinateAt part axis (size k + x) ≡ coordinateAt ps₀ axis (levelStart n (edges M) (suc k) + x)
+      unfolding coordinateAt
       point-next axis x =
           let a = g .start in
           let e : base + (size k + x) ≡ sum size (suc k) + x = omega arith in
           part-at axis (size k + x) ∙ ap₂ (λ (t : List ℤ) (i : ℕ). coordinateAt t axis i) (g .points) e
-          ∙ position-behind k (omega arith) axis (sum size (suc k) + x) (omega arith) ∙ ap (λ (i : ℕ). coordinateAt ps₀ axis (i + x)) (sym (start-of (suc k)))
+          ∙ P.position-behind n vs rs before ps₀ k (room k (omega arith)) ((sum size (suc k) + x) * 3 + axis) (omega arith) ∙ ap (λ (i : ℕ). coordinateAt ps₀ axis (i + x)) (sym (start-of (suc k)))
 
       mark-here : (v : ℕ) → v < size k → from base (marked map) v ≡ hit k v
       unfolding from
@@ -401,15 +370,15 @@ module _ {n e levels : ℕ} {vs rs : List ℕ} {ps₀ : List ℤ} (R : StackRead
                 at = at-more;
                 behind = behind-more;
                 points = back
-                    ∙ L.stacked-more 3 row (λ j x. refl) size ps₀ k (room k (omega arith)) (room (suc k) l) ps (g .points ∙ positions-are k (omega arith)) (base * 3) (count * 3)
+                    ∙ L.stacked-more 3 row (λ j x. refl) size ps₀ k (room k (omega arith)) (room (suc k) l) ps (g .points ∙ P.positions-are n vs rs before ps₀ k (room k (omega arith))) (base * 3) (count * 3)
                     (ap (λ (i : ℕ). i * 3) a) (ap (λ (i : ℕ). i * 3) b) after part-is-new
-                    ∙ sym (positions-are (suc k) l);
+                    ∙ sym (P.positions-are n vs rs before ps₀ (suc k) (room (suc k) l));
               })
 
   -- ---- all levels done
 
   pub raised-length : (map₀ : List ℕ) {k base count f : ℕ} {map : List ℕ} {ps : List ℤ} → Raised n vs rs ps₀ map₀ k base count f map ps → k ≤ levels → length ps ≡ length ps₀
-  raised-length map₀ {k} g l = ap length (g .points) ∙ positions-long map₀ k l
+  raised-length map₀ {k} g l = ap length (g .points) ∙ P.positions-long n vs rs (marked map₀) ps₀ k (room map₀ k l)
 
   pub raised-end : (map₀ : List ℕ) {k base count f : ℕ} {map : List ℕ} {ps : List ℤ} → Raised n vs rs ps₀ map₀ k base count f map ps → k ≡ levels
       → TouchedMarked n levels vs rs (marked map₀) (marked map) × (ps ≡ refreshedPositions n vs rs (marked map₀) ps₀ levels)

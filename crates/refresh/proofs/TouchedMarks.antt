@@ -16,9 +16,9 @@ use Rattle.rings.specs.Table.{rows}
 use Rattle.map.specs.Map.{wordCount, members}
 use Rattle.map.proofs.Bits.{members-same, members-add}
 use Rattle.map.proofs.Sets.{members-upto}
-use Rattle.refine.specs.Stack.{levelStart, stackCount, levelOf, numberIn}
-use Rattle.refine.specs.Accepts.{AcceptsStack}
-use Rattle.refine.proofs.Sizes.{level-count, start-none, start-suc}
+use Rattle.stack_judge.specs.Stack.{levelStart, stackCount, levelOf, numberIn}
+use Rattle.stack_judge.specs.Accepts.{AcceptsStack}
+use Rattle.stack_judge.proofs.Sizes.{level-count, start-none, start-suc}
 use Rattle.refine.proofs.StackLevels.{start-is}
 use Rattle.refresh.specs.Stack.{TouchedMarked}
 

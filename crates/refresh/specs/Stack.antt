@@ -14,8 +14,8 @@ use Rattle.mesh.specs.Loop.{loop}
 use Rattle.units.specs.Coordinate.{InRange}
 use Rattle.rings.specs.Table.{gather, put, rows, coordinateAt, pointRows}
 use Rattle.map.specs.Map.{marked}
-use Rattle.refine.specs.Stack.{levelStart, stackCount}
-use Rattle.refine.specs.Accepts.{AcceptsStack}
+use Rattle.stack_judge.specs.Stack.{levelStart, stackCount}
+use Rattle.stack_judge.specs.Accepts.{AcceptsStack}
 
 -- the stack is accepted, e is its E, every level's rows are as refinement gives them, and every coordinate is in range
 pub record StackReady (n e levels : ℕ) (vs rs : List ℕ) (ps : List ℤ) : Type 0 where

@@ -1,17 +1,16 @@
 -- One row rewritten: what stands where in a ring with a place taken out or put in, and how a loop over the ring's places with the padding behind them gives the whole row.
 -- Assumes nothing.
-use Prim.Native.Nat.{ℕ, suc, _+_, _-_, _≤_, _<_}
+use Prim.Native.Nat.{ℕ, suc, _+_, _-_, _*_, _≤_, _<_}
 use mathlib.Core.Path.{_≡_, sym, ap, _∙_}
-use mathlib.Core.List.{List}
+use mathlib.Core.List.{List, [], _++_, append-nil}
 use native.Mathlib.Numerals.{add-one}
 use native.Mathlib.Omega.{arith}
-use lib.ListN.{length, getD, take, replicate, getD-replicate, List·getD-append}
+use lib.ListN.{length, getD, take, drop, replicate, length-replicate, drop-of-length-le}
 use lib.Seq.{getD-take, ext-getD, length-take-le}
 use Rattle.mesh.specs.Edits.{closed, opened}
-use Rattle.rings.specs.Table.{padded}
-use Rattle.rings.proofs.Rewrite.{Written, getD-append-ge}
+use Rattle.rings.specs.Table.{put, padded}
+use Rattle.rings.proofs.Rewrite.{Written}
 use Rattle.mesh.proofs.EditPlaces.{opened-before, opened-after, opened-closed, closed-length}
-use Rattle.rings.proofs.Tables.{length-padded}
 
 -- ---- a ring with a place taken out or put in, as the loops move its entries
 
@@ -38,19 +37,18 @@ module _ (row : List ℕ) (n : ℕ) (long : length row ≡ 32) (most : n ≤ 32)
   pub length-front : length (take n row) ≡ n
   length-front = length-take-le n row (omega arith)
 
-  pub front-below : (j : ℕ) → j < n → getD row j 0 ≡ getD (padded (take n row)) j 0
-  unfolding padded
-  front-below j h = let k = length-front in sym (List·getD-append (take n row) _ 0 j (omega arith) ∙ getD-take n row j 0 h)
-
-  pub front-behind : (j : ℕ) → n ≤ j → j < 32 → 65535 ≡ getD (padded (take n row)) j 0
-  unfolding padded
-  front-behind j h m =
-      let k = length-front in
-      sym (getD-append-ge (take n row) (replicate (32 - length (take n row)) 65535) j (omega arith)
-      ∙ getD-replicate (32 - length (take n row)) (j - length (take n row)) 65535 0 (omega arith))
-
-  pub front-long : length (padded (take n row)) ≡ length row
-  front-long = let k = length-front in length-padded (take n row) (omega arith) ∙ sym long
+  -- the null vertex in its other places
+  pub front-padded : put row (0 * 32 + n) (replicate (32 - n) 65535) ≡ padded (take n row)
+  unfolding put padded
+  front-padded =
+      let others : List ℕ = replicate (32 - n) 65535 in
+      let z : 0 * 32 + n ≡ n = omega arith in
+      let w : length others ≡ 32 - n = length-replicate (32 - n) 65535 in
+      let e : drop (n + length others) row ≡ [] = drop-of-length-le row {i = n + length others} (omega arith) in
+      ap (λ (k : ℕ). take k row ++ (others ++ drop (k + length others) row)) z
+      ∙ ap (λ (x : List ℕ). take n row ++ (others ++ x)) e
+      ∙ ap (λ (x : List ℕ). take n row ++ x) (append-nil others)
+      ∙ ap (λ (k : ℕ). take n row ++ replicate (32 - k) 65535) (sym length-front)
 
 -- a row whose front was rewritten to a ring, place by place, and whose other places were padded then
 pub front-written : {ring old row : List ℕ} {k : ℕ} → Written ring old k row → (n : ℕ) → length ring ≡ n → n ≤ k → n ≤ length old → (padding : List ℕ) → padding ≡ padded (take n row) → padding ≡ padded ring

@@ -5,8 +5,7 @@ ghost use lib.ListN.{length, take, set};
 ghost use Rattle.mesh.specs.Edits.{closed, opened};
 ghost use Rattle.mesh.specs.Limits.{mostValence};
 ghost use Rattle.rings.specs.Table.{padded};
-use rings::MOST_VALENCE;
-use rings::NULL_VERTEX;
+use rings::table::write_unused;
 
 // Keeps the first n places and writes the null vertex into the others.
 pub fn pad(row: &mut [u16], n: usize)
@@ -14,11 +13,7 @@ pub fn pad(row: &mut [u16], n: usize)
     requires { ⌜ n ≤ mostValence ⌝ }
     ensures { λ _. ⌜ now (row .exit) ≡ padded (take n (now (row .entry))) ⌝ }
 {
-    let mut k = n;
-    while k < MOST_VALENCE {
-        row[k] = NULL_VERTEX;
-        k += 1;
-    }
+    write_unused(row, 0, n);
 }
 
 // Takes place i out of the ring of n: later places close up.

@@ -6,3 +6,5 @@ pub mod Checks
 pub mod Accepted
 pub mod Rewrite
 pub mod Tables
+pub mod Blocks
+pub mod LevelRows

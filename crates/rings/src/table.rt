@@ -1,13 +1,15 @@
 // The lent tables: how a ring lies in them, and whether they have room.
 ghost use mathlib.Core.Path.{_≡_};
-ghost use Prim.Native.Nat.{_≤_, _<_};
-ghost use lib.ListN.{length, getD};
-ghost use Rattle.rings.specs.Table.{ringOf};
+ghost use Prim.Native.Nat.{_+_, _-_, _*_, _≤_, _<_};
+ghost use lib.ListN.{length, getD, replicate};
+ghost use Rattle.mesh.specs.Limits.{mostCount, mostValence, nullVertex};
+ghost use Rattle.rings.specs.Table.{ringOf, put};
 ghost use Rattle.rings.specs.Check.{badCount, shortRings, shortTables, improperRow};
 ghost use Rattle.rings.specs.Accepts.{Room, HasRow, Fit};
 use super::LEAST_COUNT;
 use super::MOST_COUNT;
 use super::MOST_VALENCE;
+use super::NULL_VERTEX;
 use super::ring::has_bad;
 
 // The ring of v: the used places of its row.
@@ -19,6 +21,20 @@ pub fn ring_of<'a, 'b>(valences: &'a [u16], rings: &'b [u16], v: usize) -> &'b [
     let n = valences[v] as usize;
     let a = v * MOST_VALENCE;
     &rings[a..a + n]
+}
+
+// Writes the null vertex into the unused places of a row, from place `used` on.
+pub fn write_unused(rings: &mut [u16], row: usize, used: usize)
+    requires { ⌜ row * mostValence + mostValence ≤ length (now rings) ⌝ }
+    requires { ⌜ used ≤ mostValence ⌝ }
+    ensures { λ _. ⌜ now (rings .exit) ≡ put (now (rings .entry)) (row * mostValence + used) (replicate (mostValence - used) nullVertex) ⌝ }
+{
+    let a = row * MOST_VALENCE;
+    let mut k = used;
+    while k < MOST_VALENCE {
+        rings[a + k] = NULL_VERTEX;
+        k += 1;
+    }
 }
 
 // Reason 2: is the number of vertices not 4 to 1,024?
@@ -33,7 +49,7 @@ pub fn is_bad_count(count: usize) -> bool
 
 // Reason 1, for the two tables of the ring calls.
 pub fn is_short_rings(valences: &[u16], rings: &[u16], count: usize) -> bool
-    requires { ⌜ count ≤ 1024 ⌝ }
+    requires { ⌜ count ≤ mostCount ⌝ }
     ensures { λ r. ⌜ r ≡ shortRings count (now (valences .entry)) (now (rings .entry)) ⌝ }
 {
     if valences.len() < count {
@@ -44,7 +60,7 @@ pub fn is_short_rings(valences: &[u16], rings: &[u16], count: usize) -> bool
 
 // Reason 1, for all three tables.
 pub fn is_short(valences: &[u16], rings: &[u16], positions: &[i32], count: usize) -> bool
-    requires { ⌜ count ≤ 1024 ⌝ }
+    requires { ⌜ count ≤ mostCount ⌝ }
     ensures { λ r. ⌜ r ≡ shortTables count (now (valences .entry)) (now (rings .entry)) (now (positions .entry)) ⌝ }
 {
     if is_short_rings(valences, rings, count) {

@@ -20,7 +20,7 @@ use Rattle.mesh.proofs.RefinedRows.{first-start, next-start, last-start, edge-n
 use Rattle.rings.specs.Table.{ringOf, rows}
 use Rattle.rings.proofs.Rows.{rows-ring}
 use Rattle.level.specs.Level.{Ready, startOf}
-use Rattle.level.proofs.Overs.{over-none, over-next, over-left}
+use Rattle.mesh.proofs.Overs.{over-none, over-next, over-left}
 use Rattle.level.proofs.Mids.{ready-length}
 
 -- ---- searches that go on where another ended

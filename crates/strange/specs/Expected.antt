@@ -10,7 +10,7 @@ use Rattle.mesh.specs.Mesh.{edges}
 use Rattle.mesh.specs.Refine.{refine, level}
 use Rattle.rings.specs.Table.{rows, ringOf}
 use Rattle.rings.specs.Check.{beyondAt}
-use Rattle.refine.specs.Stack.{stackCount, levelOf, numberIn}
+use Rattle.stack_judge.specs.Stack.{stackCount, levelOf, numberIn}
 
 -- two lists are the same
 abbrev pub sameList : List ℕ → List ℕ → Bool

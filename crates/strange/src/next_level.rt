@@ -3,18 +3,20 @@ ghost use mathlib.Core.Path.{_≡_};
 ghost use mathlib.Core.Bool.{not};
 ghost use Prim.Native.Nat.{suc, _+_, _*_, _≤_, _<_};
 ghost use lib.ListN.{length, getD, take, drop};
+ghost use Rattle.mesh.specs.Limits.{mostValence, stackBound};
 ghost use Rattle.mesh.specs.Mesh.{edges};
 ghost use Rattle.mesh.specs.Search.{first};
 ghost use Rattle.mesh.specs.Refine.{mid, refine};
 ghost use Rattle.rings.specs.Table.{ringOf, rows};
-ghost use Rattle.level.specs.Level.{Ready, HasOld, startOf, placesOf};
+ghost use Rattle.level.specs.Level.{Ready, HasOld, startOf};
+ghost use Rattle.next_rings.specs.Places.{placesOf};
 ghost use Rattle.strange.specs.Expected.{sameList, strangeNext};
-use level::NewRing;
-use level::numbers::count_over;
-use level::numbers::place_over;
-use level::rows::around;
-use level::rows::middle;
 use mesh_check::positions::has_beyond;
+use next_rings::NewRing;
+use next_rings::numbers::count_over;
+use next_rings::numbers::place_over;
+use next_rings::rows::around;
+use next_rings::rows::middle;
 use rings::MOST_VALENCE;
 use rings::table::ring_of;
 
@@ -84,9 +86,9 @@ fn first_strange_old(valences: &[u16], rings: &[u16], positions: &[i32], count: 
 
 // Do the six places of a row differ from a new vertex's ring?
 fn differs_new(rings: &[u16], row: usize, ring: NewRing) -> bool
-    requires { ⌜ row ≤ 1048576 ⌝ }
-    requires { ⌜ row * 32 + 6 ≤ length (now rings) ⌝ }
-    ensures { λ r. ⌜ r ≡ not (sameList (take 6 (drop (row * 32) (now (rings .entry)))) (placesOf ring)) ⌝ }
+    requires { ⌜ row ≤ stackBound ⌝ }
+    requires { ⌜ row * mostValence + 6 ≤ length (now rings) ⌝ }
+    ensures { λ r. ⌜ r ≡ not (sameList (take 6 (drop (row * mostValence) (now (rings .entry)))) (placesOf ring)) ⌝ }
 {
     let a = row * MOST_VALENCE;
     if rings[a] != ring.p {

@@ -17,11 +17,10 @@ use Rattle.rings.specs.Table.{put, gather, ringOf, rows, padded, valenceRows, r
 use Rattle.rings.proofs.Tables.{put-nothing, length-put, put-before, put-within, length-gather, gather-at, gather-same}
 use Rattle.rings.proofs.Rows.{rows-ring}
 use Rattle.level.specs.Level.{Levels, HasOld, UpTo, startOf, pointBy, coordinates, nextPoint, valencesUpTo, ringsUpTo, positionsUpTo}
-use Rattle.level.proofs.Blocks.{put-one}
+use Rattle.rings.proofs.Blocks.{put-one, put-over, gather-step, padded-at}
 use Rattle.level.proofs.Kept.{rows-kept, ring-kept}
 use Rattle.level.proofs.Mids.{ready-length}
 use Rattle.level.proofs.OldRings.{old-entry}
-use Rattle.level.proofs.Written.{put-over, gather-step, padded-at}
 use Rattle.level.proofs.NextLevel.{old-ring-is, old-mask, next-same, length-valences, wide-ring, length-rings, length-points}
 
 three : {x y z x′ y′ z′ : ℤ} → x ≡ x′ → y ≡ y′ → z ≡ z′ → x ∷ y ∷ z ∷ [] ≡ x′ ∷ y′ ∷ z′ ∷ []

@@ -15,7 +15,7 @@ use Rattle.mesh.proofs.Refined.{new-valence}
 use Rattle.rings.specs.Table.{put, gather, ringOf, rows, padded, valenceRows}
 use Rattle.rings.proofs.Tables.{put-more}
 use Rattle.level.specs.Level.{Ready, Levels, HasOld, UpTo, startOf, valencesUpTo, ringsUpTo, positionsUpTo}
-use Rattle.level.proofs.Blocks.{unused-none, unused-more}
+use Rattle.rings.proofs.Blocks.{unused-none, unused-more}
 use Rattle.level.proofs.Mids.{ready-length, counted-mid}
 use Rattle.level.proofs.Kept.{behind-ring}
 use Rattle.level.proofs.OldRings.{old-length, old-end}

@@ -2,6 +2,7 @@
 ghost use mathlib.Core.Path.{_≡_};
 ghost use Prim.Native.Nat.{suc, _+_, _*_, _<_};
 ghost use lib.ListN.{getD};
+ghost use Rattle.mesh.specs.Limits.{mostValence};
 ghost use Rattle.mesh.specs.Numbering.{below};
 ghost use Rattle.mesh.specs.Refine.{mid, oldRing};
 ghost use Rattle.rings.specs.Table.{put, ringOf, rows, padded};
@@ -9,9 +10,9 @@ ghost use Rattle.level.specs.Level.{Ready, HasOld, startOf};
 use super::numbers::count_below;
 use super::numbers::seek_known;
 use halves::rows::row_of;
-use halves::rows::write_unused;
 use rings::MOST_VALENCE;
 use rings::table::ring_of;
+use rings::table::write_unused;
 
 // m(p, q) for the neighbour q at place k of p, which has n places, `low` of them up to p: counted where q is over p, else as the new ring of q has it already.
 fn middle_of(
@@ -59,7 +60,7 @@ pub fn write_old_ring(
     requires { ⌜ start ≡ startOf count (now valences) (now rings) p ⌝ }
     requires { ⌜ low ≡ below (suc p) (ringOf (now valences) (now rings) p) ⌝ }
     requires { ⌜ HasOld count (now valences) (now rings) p ⌝ }
-    ensures { λ _. ⌜ now (rings .exit) ≡ put (now (rings .entry)) ((count + p) * 32) (padded (oldRing (rows count (now (valences .entry)) (now (rings .entry))) p)) ⌝ }
+    ensures { λ _. ⌜ now (rings .exit) ≡ put (now (rings .entry)) ((count + p) * mostValence) (padded (oldRing (rows count (now (valences .entry)) (now (rings .entry))) p)) ⌝ }
 {
     let a = (count + p) * MOST_VALENCE;
     let mut k = 0;

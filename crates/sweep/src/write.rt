@@ -3,6 +3,7 @@ ghost use mathlib.Core.Path.{_≡_};
 ghost use mathlib.Core.List.{[], _∷_};
 ghost use Prim.Native.Nat.{_+_, _-_, _*_, _≤_, _<_};
 ghost use lib.ListN.{length, getD, set, replicate};
+ghost use Rattle.mesh.specs.Limits.{mostValence};
 ghost use Rattle.mesh.specs.Mesh.{edges};
 ghost use Rattle.mesh.specs.Loop.{vertexMask};
 ghost use Rattle.mesh.specs.Refine.{oldRing};
@@ -31,7 +32,7 @@ fn write_vertex(
     requires { ⌜ start ≡ startOf count (now valences) (now rings) p ⌝ }
     requires { ⌜ HasOld count (now valences) (now rings) p ⌝ }
     ensures { λ r. ⌜ r ≡ startOf count (now (valences .entry)) (now (rings .entry)) (p + 1) ⌝ }
-    ensures { λ _. ⌜ now (rings .exit) ≡ put (now (rings .entry)) ((count + p) * 32) (padded (oldRing (rows count (now (valences .entry)) (now (rings .entry))) p)) ⌝ }
+    ensures { λ _. ⌜ now (rings .exit) ≡ put (now (rings .entry)) ((count + p) * mostValence) (padded (oldRing (rows count (now (valences .entry)) (now (rings .entry))) p)) ⌝ }
     ensures { λ _. ⌜ now (positions .exit) ≡ put (now (positions .entry)) ((count + p) * 3) (coordinates (pointBy (vertexMask p (ringOf (now (valences .entry)) (now (rings .entry)) p)) (now (positions .entry)))) ⌝ }
 {
     let n = valences[p] as usize;

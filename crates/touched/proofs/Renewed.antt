@@ -24,7 +24,7 @@ use Rattle.rings.proofs.Tables.{put-nothing, length-put, put-before, put-within
 use Rattle.map.specs.Map.{marked, including}
 use Rattle.map.proofs.Sets.{including-else}
 use Rattle.level.specs.Level.{Levels, pointBy, coordinates, nextPoint}
-use Rattle.level.proofs.Written.{gather-step}
+use Rattle.rings.proofs.Blocks.{gather-step}
 use Rattle.touched.specs.NextLevel.{from, touchedNext, marksWith, marksUpTo, renewed, pointsWith, pointsUpTo, OldMarked, UntouchedFrom}
 use Rattle.touched.proofs.Touched.{next-same}
 

@@ -8,6 +8,7 @@ use mathlib.Core.List.{List, [], _∷_}
 use lib.Dec.{leb, ltb}
 use lib.IntN.{ℤ}
 use lib.ListN.{length, getD}
+use Rattle.mesh.specs.Limits.{stackBound}
 use Rattle.mesh.specs.Ring.{_∈_}
 use Rattle.mesh.specs.Mesh.{Mesh, edges}
 use Rattle.mesh.specs.Refine.{refine}
@@ -27,7 +28,7 @@ touchedNext M below x = anySource below (loopMask M x .terms)
 
 -- the numbers below `end` are in the map, and few enough to reckon with
 pub record InMap (end : ℕ) (map : List ℕ) : Type 0 where
-  pub small : end ≤ 1048576
+  pub small : end ≤ stackBound
   pub room : end ≤ length map * 32
 
 -- the rings of the next level are as refinement gives them

@@ -5,6 +5,7 @@
 ghost use mathlib.Core.Path.{_≡_};
 ghost use Prim.Native.Nat.{_+_, _-_, _*_, _≤_, _<_};
 ghost use lib.ListN.{length, getD};
+ghost use Rattle.mesh.specs.Limits.{mostValence, stackBound};
 ghost use Rattle.mesh.specs.Mesh.{edges};
 ghost use Rattle.mesh.specs.Mask.{anySource};
 ghost use Rattle.mesh.specs.Loop.{edgeMask};
@@ -128,13 +129,13 @@ pub fn is_new_touched(
 
 // How many of `most` rows that begin at place a, 16, 4 or 1, are seen at once to begin below a bound: the last of them does, and their first places ascend.
 fn run_below(rings: &[u16], a: usize, most: usize, bound: usize) -> usize
-    requires { ⌜ a + most * 32 ≤ length (now rings) ⌝ }
-    requires { ⌜ a + most * 32 ≤ 33554432 ⌝ }
+    requires { ⌜ a + most * mostValence ≤ length (now rings) ⌝ }
+    requires { ⌜ a + most * mostValence ≤ stackBound * mostValence ⌝ }
     requires { ⌜ 0 < most ⌝ }
     requires { ⌜ getD (now rings) a 0 < bound ⌝ }
     ensures { λ r. ⌜ 0 < r ⌝ }
     ensures { λ r. ⌜ r ≤ most ⌝ }
-    ensures { λ r. ⌜ getD (now (rings .entry)) (a + (r - 1) * 32) 0 < bound ⌝ }
+    ensures { λ r. ⌜ getD (now (rings .entry)) (a + (r - 1) * mostValence) 0 < bound ⌝ }
 {
     if 16 <= most {
         if (rings[a + 480] as usize) < bound {

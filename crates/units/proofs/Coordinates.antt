@@ -1,19 +1,17 @@
 -- A coordinate at an `i32`, and moved up by an offset: the offset is any number that leaves no coordinate negative. Assumes nothing.
 use mathlib.Core.Path.{_≡_, refl, sym, ap, _∙_, subst}
-use Prim.Native.Nat.{ℕ, zero, suc, _+_, _-_, _*_, _≤_, _<_}
+use Prim.Native.Nat.{ℕ, zero, suc, _+_, _-_, _*_, _%_, _≤_, _<_}
+use native.Mathlib.Nat.{mul-pos, mul-assoc, mul-left-comm}
 use native.Mathlib.Omega.{arith}
-use mathlib.Core.Bool.{Bool, true, false}
 use lib.IntN.{ℤ, pos, negsuc, natAbs, negℤ, subℕ, _+ℤ_, _-ℤ_}
 use mir.Syntax.{w32}
 use mir.Val.{SFits, toZ, ofZ}
 use mir.ValLaws.{toZ-ofZ, toZ-pos}
 use Rattle.mesh.specs.Limits.{mostUnits}
-use Rattle.mesh.specs.Round.{Is, rounded, roundNat}
-use Rattle.mesh.proofs.Rounding.{roundNat-le}
+use Rattle.mesh.specs.Round.{Is, rounded}
+use Rattle.mesh.proofs.Rounding.{rounded-sub, roundNat-same}
 use Rattle.mesh.proofs.Ints.{sub-pos, sub-neg, sub-eq, by-sign, plus, self-pos}
 use Rattle.units.specs.Coordinate.{InRange, Biased}
-use Rattle.units.specs.Millimetres.{signed, toward}
-use Rattle.units.proofs.Signed.{rounded-signed}
 
 -- ---- what the machine holds
 
@@ -81,13 +79,11 @@ pub mean-is : {x r : ℤ} {n m : ℕ} (offset d : ℕ) → m ≡ offset * d → 
     → (toZ w32 (ofZ w32 r) ≡ rounded x d) × InRange (toZ w32 (ofZ w32 r))
 mean-is {x} {r} {n} offset d e i h = (there r (h .1) ∙ h .0 ∙ ap (λ (z : ℤ). rounded z d) (ap (subℕ n) (sym e) ∙ sym (i .is)), handed r (h .1))
 
--- ---- a fraction that is in range, rounded
+-- ---- a fraction
 
-pub rounded-in : (s : Bool) (n d : ℕ) → 0 < d → n ≤ mostUnits * d → InRange (rounded (signed s n) d)
-rounded-in s n d p h =
-    subst InRange (sym (rounded-signed s n d mostUnits p refl h))
-    (down-in mostUnits (roundNat (toward s (mostUnits * d) n) d) (omega arith) (roundNat-le (mostUnits + mostUnits) (toward s (mostUnits * d) n) d p (go s)))
-  where
-    go : (s : Bool) → toward s (mostUnits * d) n ≤ (mostUnits + mostUnits) * d
-    go true = omega arith
-    go false = omega arith
+-- a common factor of the fraction can be taken out, where the offset comes in whole
+pub rounded-factor : (k n b d : ℕ) → 0 < k → 0 < d → b % 2 ≡ 0 → rounded (subℕ n (b * d)) d ≡ rounded (subℕ (k * n) (b * (k * d))) (k * d)
+rounded-factor k n b d p q e =
+    rounded-sub n b d q e
+    ∙ ap (λ (x : ℕ). subℕ x b) (roundNat-same n d (k * n) (k * d) q (mul-pos p q) (mul-left-comm n k d ∙ sym (mul-assoc k n d)))
+    ∙ sym (rounded-sub (k * n) b (k * d) (mul-pos p q) e)

@@ -1,8 +1,3 @@
--- Laws on numbers: those that the functions' proofs share, and the theorems on points and moves.
-pub mod Signed
+-- Laws on coordinates, and what the two formulas are as masks.
 pub mod Coordinates
-pub mod Floats
-pub mod MoveCases
 pub mod Masks
-pub mod Hull
-pub mod NoLoss

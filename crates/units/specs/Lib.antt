@@ -1,5 +1,3 @@
--- Numbers: coordinates in units, the two formulas of refinement, millimetres, one move.
+-- Numbers: coordinates in units, and the two formulas of refinement.
 pub mod Coordinate
 pub mod Points
-pub mod Millimetres
-pub mod Move

@@ -1,6 +1,6 @@
 -- `put_read` meets its contract. Assumes nothing.
 use native.Mathlib.Omega.{arith}
-use Rattle.listing_text.proofs.Writing.{wrote-is, wrote-wide}
+use Rattle.numerals.proofs.Writing.{wrote-is, wrote-wide}
 use Rattle.listing_text.proofs.Outcome.{read-refused, read-counted}
 use borrow.Author.Needs.{needs}
 use Rattle.listing_text.proofs.put_read.Statement.{statement}

@@ -1,7 +1,7 @@
 -- `put_refined` meets its contract. Assumes nothing.
 use native.Mathlib.Omega.{arith}
 use mathlib.Core.Path.{sym, _∙_}
-use Rattle.listing_text.proofs.Writing.{wrote-is, wrote-wide}
+use Rattle.numerals.proofs.Writing.{wrote-is, wrote-wide}
 use Rattle.listing_text.proofs.Outcome.{level-fits, level-refused, level-counted}
 use borrow.Author.Needs.{needs}
 use Rattle.listing_text.proofs.put_refined.Statement.{statement}

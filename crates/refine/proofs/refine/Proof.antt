@@ -2,8 +2,8 @@
 use mathlib.Core.Path.{_≡_, sym, _∙_}
 use borrow.Author.Needs.{needs}
 use Rattle.rings.specs.declared.Verdict.the-variants.{Accepted}
-use Rattle.refine.specs.Refinement.{stackVerdict}
-use Rattle.refine.proofs.AcceptedStack.{stack-only}
+use Rattle.stack_judge.specs.StackVerdict.{stackVerdict}
+use Rattle.stack_judge.proofs.AcceptedStack.{stack-only}
 use Rattle.refine.proofs.RefineAnswers.{refused-answer, refused-tables, accepted-answer, accepted-valences, accepted-rings, accepted-positions}
 use Rattle.refine.proofs.refine.Statement.{statement}
 use Rattle.refine.proofs.refine.Tie as tie

@@ -1,7 +1,7 @@
 -- `first_strange` meets its contract. Assumes nothing.
 use Prim.Native.Nat.{_-_}
 use native.Mathlib.Omega.{arith}
-use Rattle.refine.proofs.AcceptedStack.{stack-only}
+use Rattle.stack_judge.proofs.AcceptedStack.{stack-only}
 use Rattle.as_refined.proofs.Sweep.{Reached, reached-none, reached-room, reached-small, reached-asks, reached-strange, reached-more, reached-end}
 use Rattle.as_refined.proofs.stack.first_strange.Statement.{statement}
 use Rattle.as_refined.proofs.stack.first_strange.Tie as tie

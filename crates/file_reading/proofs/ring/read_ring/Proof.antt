@@ -1,15 +1,12 @@
 -- `read_ring` meets its contract. Assumes nothing.
 use borrow.Author.Needs.{needs}
 use mathlib.Core.Path.{refl}
-use Rattle.file_reading.proofs.RowsRead.{ring-padded}
+use Rattle.file_reading.proofs.RowsRead.{row-cleared, ring-padded}
 use Rattle.file_reading.proofs.ring.read_ring.Statement.{statement}
 use Rattle.file_reading.proofs.ring.read_ring.Tie as tie
 
-mul-fill : tie.Need-mul-fill
-mul-fill c = search needs
-
-fill-requires : tie.Need-fill-requires
-fill-requires c κs = search needs
+write-unused-requires : tie.Need-write-unused-requires
+write-unused-requires c κs = search needs
 
 add-read-neighbours : tie.Need-add-read-neighbours
 add-read-neighbours c = search needs
@@ -24,14 +21,15 @@ same-length : tie.Need-same-length
 same-length c = search needs
 
 returns : tie.Need-returns
-returns c = ring-padded (c .before .before .before .before .before .before .before .before .before .before .pre .0) (c .before .before .before .before .before .before .fill .ensures) (c .before .before .read-neighbours .ensures) refl
+returns c =
+    let s = c .before .before .before .before .before .before .before .before .before .before in
+    ring-padded (s .pre .0) (row-cleared (s .args .v) (s .pre .1) (c .before .before .before .before .before .before .write-unused .ensures)) (c .before .before .read-neighbours .ensures) refl
 
 pub read-ring-spec : {M : Type 1} → statement M
 read-ring-spec =
     tie.close
     (tie.spec
-    mul-fill
-    fill-requires
+    write-unused-requires
     add-read-neighbours
     mul-read-neighbours
     read-neighbours-requires

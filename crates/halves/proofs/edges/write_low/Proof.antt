@@ -34,7 +34,7 @@ slice-write-rings-3 : tie.Need-slice-write-rings-3
 slice-write-rings-3 c = simp length-set (omega arith)
 
 write-unused-requires : tie.Need-write-unused-requires
-write-unused-requires c κs = (search needs, (simp length-set (omega arith), search needs))
+write-unused-requires c κs = (simp length-set (omega arith), search needs)
 
 same-length : tie.Need-same-length
 same-length c = c .before .before .write-unused .kept .0 ∙ simp length-set

@@ -1,7 +1,7 @@
 -- `put_counts` meets its contract. Assumes nothing.
 use native.Mathlib.Omega.{arith}
 use Rattle.listing_text.specs.Lines.{countsLine}
-use Rattle.listing_text.proofs.Writing.{wrote-then}
+use Rattle.numerals.proofs.Writing.{wrote-then}
 use borrow.Author.Needs.{needs}
 use Rattle.listing_text.proofs.lines.put_counts.Statement.{statement}
 use Rattle.listing_text.proofs.lines.put_counts.Tie as tie

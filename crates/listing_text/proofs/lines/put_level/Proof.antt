@@ -1,6 +1,6 @@
 -- `put_level` meets its contract. Assumes nothing.
 use native.Mathlib.Omega.{arith}
-use Rattle.listing_text.proofs.Writing.{wrote-then}
+use Rattle.numerals.proofs.Writing.{wrote-then}
 use borrow.Author.Needs.{needs}
 use Rattle.listing_text.proofs.lines.put_level.Statement.{statement}
 use Rattle.listing_text.proofs.lines.put_level.Tie as tie

@@ -4,8 +4,8 @@ use borrow.Author.Needs.{needs}
 use Prim.Native.Nat.{_-_, _*_, _≤_}
 use Rattle.rings.specs.Table.{gather}
 use Rattle.listing_text.specs.Lines.{vertexLine}
-use Rattle.listing_text.specs.Wrote.{Wrote}
-use Rattle.listing_text.proofs.Writing.{wrote-none, wrote-length, rows-more, rows-all}
+use Rattle.numerals.specs.Wrote.{Wrote}
+use Rattle.numerals.proofs.Writing.{wrote-none, wrote-length, rows-more, rows-all}
 use Rattle.listing_text.proofs.lines.put_vertices.Statement.{statement}
 use Rattle.listing_text.proofs.lines.put_vertices.Tie as tie
 

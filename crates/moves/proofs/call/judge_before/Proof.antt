@@ -1,9 +1,9 @@
 -- `judge_before` meets its contract. Assumes nothing.
 use mathlib.Core.Path.{_≡_, sym, _∙_}
 use Rattle.rings.specs.declared.Verdict.the-variants.{Accepted}
-use Rattle.refine.specs.Accepts.{AcceptsStack}
-use Rattle.refine.specs.Refinement.{stackVerdict}
-use Rattle.refine.proofs.AcceptedStack.{stack-only}
+use Rattle.stack_judge.specs.Accepts.{AcceptsStack}
+use Rattle.stack_judge.specs.StackVerdict.{stackVerdict}
+use Rattle.stack_judge.proofs.AcceptedStack.{stack-only}
 use Rattle.strange.specs.Expected.{whole}
 use Rattle.moves.proofs.Judging.{edges-asked, edges-are, whole-is, whole-small, before-stack, before-words, before-strange, before-many, before-accepted}
 use borrow.Author.Needs.{needs}

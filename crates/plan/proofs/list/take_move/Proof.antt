@@ -2,7 +2,7 @@
 use mathlib.Core.Path.{_≡_}
 use denote.Ref.{now}
 use Rattle.units.specs.declared.Point.{Point}
-use Rattle.units.specs.declared.Moved.the-variants.{At, NotFinite, Outside}
+use Rattle.millimetres.specs.declared.Moved.the-variants.{At, NotFinite, Outside}
 use Rattle.rings.specs.declared.Refusal.the-variants as refusal
 use Rattle.plan.specs.declared.Plan.{Plan}
 use Rattle.plan.specs.Plan.{notedIn, refusedIn, takenIn}

@@ -52,7 +52,7 @@ use denote.Triple.Table.{entered, cited}
 use denote.Triple.Clauses.{ensured, lasts}
 use denote.Triple.Walked.{says, Stays, stay-none-slice, stay-none, walkOf as walkTriple, Walks, ends-at, walked, goes-none-slice, goes-none, walk-meets}
 use Rattle.plan.specs.Plan.{stepOf, walkOf}
-use Rattle.units.specs.declared.Change.the-variants.{Place}
+use Rattle.millimetres.specs.declared.Change.the-variants.{Place}
 use Rattle.plan.specs.declared.Move.{Move}
 use Rattle.plan.specs.declared.Plan.{Plan}
 use Rattle.plan.proofs.Move as T

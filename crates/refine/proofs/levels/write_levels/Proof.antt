@@ -1,7 +1,7 @@
 -- `write_levels` meets its contract: the invariant is that the first k levels stand in the tables, and base is where level k begins. Assumes nothing.
 use Prim.Native.Nat.{_-_}
 use native.Mathlib.Omega.{arith}
-use Rattle.refine.proofs.Judged.{counted-edges}
+use Rattle.stack_judge.proofs.Judged.{counted-edges}
 use Rattle.refine.proofs.WrittenLevels.{Running, Bounds, running-none, running-lengths, running-bounds, running-levels, running-more, end-counts, end-tables}
 use Rattle.refine.proofs.levels.write_levels.Statement.{statement}
 use Rattle.refine.proofs.levels.write_levels.Tie as tie

@@ -4,7 +4,7 @@ use mathlib.Core.Path.{refl}
 use native.Mathlib.Nat.{add-zero}
 use native.Mathlib.Omega.{arith}
 use lib.ListN.{take, drop}
-use Rattle.level.specs.Level.{placesOf}
+use Rattle.next_rings.specs.Places.{placesOf}
 use Rattle.strange.proofs.SameLists.{Agree, agree-none, six-differ, six-more, six-last}
 use Rattle.strange.proofs.next_level.differs_new.Statement.{statement}
 use Rattle.strange.proofs.next_level.differs_new.Tie as tie

@@ -68,7 +68,7 @@ add-write-unused : tie.Need-add-write-unused Inv-loop μ-loop
 add-write-unused c = omega arith
 
 write-unused-requires : tie.Need-write-unused-requires Inv-loop μ-loop
-write-unused-requires c κs = let s = c .before .before .before .before .before in (omega arith, (omega arith, omega (arith, s .pre .0 .most _ (s .pre .1 .0))))
+write-unused-requires c κs = let s = c .before .before .before .before .before in (omega arith, omega (arith, s .pre .0 .most _ (s .pre .1 .0)))
 
 same-length : tie.Need-same-length Inv-loop μ-loop
 same-length c = c .before .before .write-unused .kept .0 ∙ c .before .before .before .before .before .loop .inv .1 .0

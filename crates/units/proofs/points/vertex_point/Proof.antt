@@ -15,8 +15,7 @@ use Rattle.mesh.specs.Round.{Is, rounded}
 use Rattle.mesh.proofs.Ints.{plus, times, self}
 use Rattle.units.specs.Coordinate.{InRange, offset}
 use Rattle.units.specs.Points.{vertexPoint}
-use Rattle.units.proofs.Signed.{rounded-factor}
-use Rattle.units.proofs.Coordinates.{from, mean-is}
+use Rattle.units.proofs.Coordinates.{from, mean-is, rounded-factor}
 use Rattle.units.proofs.points.vertex_point.Statement.{statement}
 use Rattle.units.proofs.points.vertex_point.Tie as tie
 

@@ -1,0 +1,3 @@
+-- Millimetres as floats, and one move.
+pub mod Millimetres
+pub mod Move

@@ -1,0 +1,2 @@
+-- The ring of a new vertex.
+pub mod Places

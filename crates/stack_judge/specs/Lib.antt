@@ -1,0 +1,4 @@
+-- The stack: its levels and sizes, and what of it is accepted.
+pub mod Stack
+pub mod Accepts
+pub mod StackVerdict

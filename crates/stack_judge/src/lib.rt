@@ -1,0 +1,124 @@
+// A stack's sizes, worked out from V and E alone, and its judgement: reason 8, the check, reasons 9 and 10.
+ghost use mathlib.Core.Path.{_≡_};
+ghost use Prim.Native.Nat.{suc, _/_, _≤_};
+ghost use lib.ListN.{length, getD};
+ghost use Rattle.mesh.specs.Limits.{mostCount, mostLevels};
+ghost use Rattle.mesh.specs.Search.{sum, first};
+ghost use Rattle.stack_judge.specs.Stack.{stackCount, badLevels, tooLarge, shortStack};
+ghost use Rattle.stack_judge.specs.StackVerdict.{stackVerdict};
+use mesh_check::judge;
+use mesh_check::valence_sum;
+use rings::MOST_VALENCE;
+use rings::Refusal;
+use rings::Verdict;
+
+// The limits that the code names.
+pub const LEAST_LEVELS: usize = 1;
+
+pub const MOST_LEVELS: usize = 4;
+
+pub const MOST_VERTICES: usize = 65535;
+
+// Reason 8: is the number of levels not 1 to 4?
+fn is_bad_levels(levels: usize) -> bool
+    ensures { λ r. ⌜ r ≡ badLevels levels ⌝ }
+{
+    if levels < LEAST_LEVELS {
+        return true;
+    }
+    MOST_LEVELS < levels
+}
+
+// E: half the sum of the valences.
+pub fn edge_count(valences: &[u16], count: usize) -> usize
+    requires { ⌜ count ≤ length (now valences) ⌝ }
+    requires { ⌜ count ≤ mostCount ⌝ }
+    ensures { λ r. ⌜ r ≡ sum (λ v. getD (now (valences .entry)) v 0) count / 2 ⌝ }
+    ensures { λ r. ⌜ r ≤ 33554432 ⌝ }
+{
+    valence_sum(valences, count) / 2
+}
+
+// Reason 9: the first of levels 0 to L that has more than 65,535 vertices, or L + 1.
+fn first_too_large(count: usize, edges: usize, levels: usize) -> usize
+    requires { ⌜ count ≤ mostCount ⌝ }
+    requires { ⌜ edges ≤ 33554432 ⌝ }
+    requires { ⌜ levels ≤ mostLevels ⌝ }
+    ensures { λ r. ⌜ r ≡ first (tooLarge count edges) (suc levels) ⌝ }
+{
+    let mut n = count;
+    let mut e = edges;
+    let mut k = 0;
+    while k <= levels {
+        if MOST_VERTICES < n {
+            return k;
+        }
+        n += e;
+        e *= 4;
+        k += 1;
+    }
+    k
+}
+
+// The vertices of levels 0 to L.
+pub fn stack_count(count: usize, edges: usize, levels: usize) -> usize
+    requires { ⌜ count ≤ mostCount ⌝ }
+    requires { ⌜ edges ≤ 33554432 ⌝ }
+    requires { ⌜ levels ≤ mostLevels ⌝ }
+    ensures { λ r. ⌜ r ≡ stackCount count edges levels ⌝ }
+    ensures { λ r. ⌜ r ≤ 4294967296 ⌝ }
+{
+    let mut n = count;
+    let mut e = edges;
+    let mut total: usize = 0;
+    let mut k = 0;
+    while k <= levels {
+        total += n;
+        n += e;
+        e *= 4;
+        k += 1;
+    }
+    total
+}
+
+// Reason 10: has a table fewer than n, 32 n or 3 n items?
+fn is_short_stack(valences: &[u16], rings: &[u16], positions: &[i32], n: usize) -> bool
+    requires { ⌜ n ≤ 4294967296 ⌝ }
+    ensures { λ r. ⌜ r ≡ shortStack n (now (valences .entry)) (now (rings .entry)) (now (positions .entry)) ⌝ }
+{
+    if valences.len() < n {
+        return true;
+    }
+    if rings.len() < n * MOST_VALENCE {
+        return true;
+    }
+    positions.len() < n * 3
+}
+
+// May a stack of these levels stand in these tables? The control mesh is judged whole, the levels by their sizes.
+pub fn judge_stack(
+    valences: &[u16],
+    rings: &[u16],
+    positions: &[i32],
+    count: usize,
+    levels: usize,
+) -> Verdict
+    ensures { λ r. ⌜ r ≡ stackVerdict count levels (now (valences .entry)) (now (rings .entry)) (now (positions .entry)) ⌝ }
+{
+    if is_bad_levels(levels) {
+        return Verdict::Refused(Refusal::BadLevels);
+    }
+    if let Verdict::Refused(r) = judge(valences, rings, positions, count) {
+        return Verdict::Refused(r);
+    }
+    let edges = edge_count(valences, count);
+    let large = first_too_large(count, edges, levels);
+    if large <= levels {
+        return Verdict::Refused(Refusal::LevelTooLarge(large));
+    }
+    let n = stack_count(count, edges, levels);
+    if is_short_stack(valences, rings, positions, n) {
+        return Verdict::Refused(Refusal::NoRoom);
+    }
+    Verdict::Accepted
+}
