@@ -148,13 +148,6 @@ module _ (old new : List ℕ) (a x : ℕ) (o : Distinct old) (m : a ∈ old) (n 
           ))
           (eq-split y a)
 
-  other-distinct : Distinct new
-  other-distinct y =
-      ⊎-elim
-      (λ e. omega (arith, other y, ap bit (e .0), absent-times x y old n (e .1)))
-      (λ e. omega (arith, other y, ap bit (e .0), o y))
-      (eq-split y x)
-
 -- ---- so for the edits
 
 module _ (l : List ℕ) (o : Distinct l) where
@@ -168,17 +161,8 @@ module _ (l : List ℕ) (o : Distinct l) where
     pub replace-in : (y : ℕ) → (y ∈ replace a x l) ↔ ((y ≡ x) ⊎ ((y ∈ l) × (y ≢ a)))
     replace-in = other-in l (replace a x l) a x o m n (replace-times a l m x)
 
-    pub replace-distinct : Distinct (replace a x l)
-    replace-distinct = other-distinct l (replace a x l) a x o m n (replace-times a l m x)
-
     pub insert-after-in : (y : ℕ) → (y ∈ insertAfter a x l) ↔ ((y ≡ x) ⊎ (y ∈ l))
     insert-after-in = more-in l (insertAfter a x l) x (insert-after-times a l m x)
 
-    pub insert-after-distinct : Distinct (insertAfter a x l)
-    insert-after-distinct = more-distinct l (insertAfter a x l) x (insert-after-times a l m x) o n
-
     pub insert-before-in : (y : ℕ) → (y ∈ insertBefore a x l) ↔ ((y ≡ x) ⊎ (y ∈ l))
     insert-before-in = more-in l (insertBefore a x l) x (insert-before-times a l m x)
-
-    pub insert-before-distinct : Distinct (insertBefore a x l)
-    insert-before-distinct = more-distinct l (insertBefore a x l) x (insert-before-times a l m x) o n

@@ -6,18 +6,16 @@ use mathlib.Core.List.{List, [], _∷_, map}
 use mathlib.Core.Logic.{⊎-elim}
 use Prim.Native.Nat.{ℕ, zero, suc, _+_, _≤_, _<_}
 use native.Mathlib.Omega.{arith}
-use lib.IntN.{ℤ}
 use borrow.Author.Tests.{lt-ltb, le-ltb}
 use Rattle.mesh.specs.Ring.{_∈_, next, prev}
 use Rattle.mesh.specs.Mesh.{Mesh, Sound, edges}
 use Rattle.mesh.specs.Refine.{lowEnd, highEnd, level}
-use Rattle.mesh.specs.Mask.{SourcesBelow, Grounded, touched, anySource, refined, refreshed}
+use Rattle.mesh.specs.Mask.{SourcesBelow, Grounded, touched, anySource}
 use Rattle.mesh.specs.Loop.{term, loopMask, loop}
 use Rattle.mesh.proofs.Lists.{lt-split, here, there}
 use Rattle.mesh.proofs.Rings.{next-in, prev-in}
 use Rattle.mesh.proofs.Edges as E
 use Rattle.mesh.proofs.Refined.{refine-sound, refine-count}
-use Rattle.mesh.proofs.Refresh.{refreshed-is-refined}
 
 pub level-sound : (M : Mesh) → Sound M → (k : ℕ) → Sound (level M k)
 unfolding level
@@ -45,14 +43,6 @@ mask-grounded M S x h =
 pub loop-grounded : (M : Mesh) → Sound M → Grounded (loop M)
 unfolding loop level
 loop-grounded M S k x h = mask-grounded (level M k) (level-sound M S k) x (rw (refine-count (level M k) (level-sound M S k)) at h)
-
--- demand 3, for Loop's step, on one coordinate
-module _ (M : Mesh) (S : Sound M) (named : ℕ → Bool) (before after : ℕ → ℤ) where
-  pub loop-refresh : ((v : ℕ) → v < M .count → named v ≡ false → after v ≡ before v)
-      → (held : ℕ → ℕ → ℤ) → ((k x : ℕ) → x < level M k .count → held k x ≡ refined (loop M) before k x)
-      → (k x : ℕ) → x < level M k .count → refreshed (loop M) named held after k x ≡ refined (loop M) after k x
-  unfolding loop level
-  loop-refresh moved held was k x h = refreshed-is-refined (loop M) (loop-grounded M S) named before after moved held was k x h
 
 -- the touched rule as document 01 has it
 abbrev pub any-ring : (t : ℕ → Bool) → List ℕ → Bool

@@ -1,7 +1,7 @@
 -- Loop's masks (document 01, "Refinement, one level" and "Moves"): which points each of them is made of, that each is a mean of points of the level below,
 -- and which points are touched by that.
 -- Assumes nothing.
-use mathlib.Core.Path.{_≡_, refl, sym, ap, _∙_}
+use mathlib.Core.Path.{_≡_, refl, sym, _∙_}
 use mathlib.Core.Bool.{Bool, true, false, _||_}
 use mathlib.Core.List.{List, [], _∷_, map}
 use mathlib.Core.Logic.{⊎-elim}
@@ -11,13 +11,13 @@ use borrow.Author.Tests.{lt-ltb, le-ltb}
 use Rattle.mesh.specs.Ring.{_∈_, next, prev}
 use Rattle.mesh.specs.Mesh.{Mesh, Sound}
 use Rattle.mesh.specs.Refine.{mid, lowEnd, highEnd, level}
-use Rattle.mesh.specs.Mask.{Mask, Grounded, touched}
+use Rattle.mesh.specs.Mask.{Mask, touched}
 use Rattle.mesh.specs.Loop.{vertexMask, edgeMask, loopMask, loop}
 use Rattle.mesh.proofs.Lists.{eq-split}
 use Rattle.mesh.proofs.Rings.{in-cons, next-in, prev-in}
 use Rattle.mesh.proofs.Edges as E
 use Rattle.mesh.proofs.Means.{IsMean, loop-mean}
-use Rattle.mesh.proofs.Levels.{level-sound, loop-grounded, any-ring, touched-old, touched-new}
+use Rattle.mesh.proofs.Levels.{level-sound, any-ring, touched-old, touched-new}
 
 -- the points that a mask is made of
 abbrev pub sources : Mask → List ℕ
@@ -44,16 +44,9 @@ module _ (M : Mesh) (S : Sound M) where
       let e = E.ends-of M (S .proper) (S .mutual′) p q l h m in
       new-mask M (mid M p q) (E.mid-range M (S .proper) (S .mutual′) p q h m .0) ∙ rw (e .0, e .1)
 
-  pub edge-sources : (p q : ℕ) → p < q → p < M .count → q ∈ M .ring p → sources (loopMask M (mid M p q)) ≡ p ∷ q ∷ next (M .ring p) q ∷ prev (M .ring p) q ∷ []
-  edge-sources p q l h m = ap sources (edge-mask p q l h m)
-
   -- weights are not negative and make up the divisor, which is positive
   pub masks-are-means : (x : ℕ) → IsMean (loopMask M x)
   masks-are-means = loop-mean M S
-
-  -- and name points of the level below only
-  pub masks-are-grounded : Grounded (loop M)
-  masks-are-grounded = loop-grounded M S
 
 -- ---- touched
 

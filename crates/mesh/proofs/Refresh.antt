@@ -53,10 +53,6 @@ module _ (S : Steps) (grounded : Grounded S) where
         go below true e = rw e below
         go below false e = rw e (was (suc k) x (omega arith) h ∙ sym (untouched-keeps (suc k) x h e))
 
-    pub refreshed-is-refined : (held : ℕ → ℕ → ℤ) → ((k x : ℕ) → x < S .size k → held k x ≡ refined S before k x)
-        → (k x : ℕ) → x < S .size k → refreshed S named held after k x ≡ refined S after k x
-    refreshed-is-refined held was k x h = refreshed-to held k (λ j y l g. was j y g) x h
-
 -- ---- what a level depends on
 
 module _ (S : Steps) (grounded : Grounded S) where

@@ -9,9 +9,6 @@ use Prim.Native.Nat.{ℕ, _≤_, _<_}
 use native.Mathlib.Nat.{le-trans}
 use lib.IntN.{ℤ}
 use Rattle.mesh.specs.Mask.{Steps, Grounded, refined, refreshed}
-use Rattle.mesh.specs.Mesh.{Mesh, Sound}
-use Rattle.mesh.specs.Loop.{loop}
-use Rattle.mesh.proofs.Levels.{loop-grounded}
 use Rattle.mesh.proofs.Refresh as R
 
 -- the new control points differ from the old at named ones only
@@ -28,12 +25,6 @@ module _ (S : Steps) (grounded : Grounded S) where
       → HoldsRefined S top held old → ChangedAtNamed S named old control → HoldsRefined S top (refreshed S named held control) control
   refresh-is-refinement top named old control held was changed k x l h =
       R.refreshed-to S grounded named old control changed held k (λ j y i. was j y (le-trans i l)) x h
-
-  -- the same for a stack without a last level
-  pub refresh-is-refinement-everywhere : (named : ℕ → Bool) (old control : ℕ → ℤ) (held : ℕ → ℕ → ℤ)
-      → ((k x : ℕ) → x < S .size k → held k x ≡ refined S old k x) → ChangedAtNamed S named old control
-      → (k x : ℕ) → x < S .size k → refreshed S named held control k x ≡ refined S control k x
-  refresh-is-refinement-everywhere named old control held was changed = R.refreshed-is-refined S grounded named old control changed held was
 
 -- one list of moves as a stack sees it, on one coordinate: the control vertices it names, and the control points it leaves
 pub record Change : Type 0 where
@@ -63,8 +54,3 @@ module _ (S : Steps) where
   refreshes-are-refinement grounded top (c ∷ cs) old held was each =
       refreshes-are-refinement grounded top cs (c .control) (refreshed S (c .named) held (c .control))
       (refresh-is-refinement S grounded top (c .named) old (c .control) held was (each .0)) (each .1)
-
--- so for Loop's refinement of a sound mesh
-pub loop-refreshes-are-refinement : (M : Mesh) → Sound M → (top : ℕ) (cs : List Change) (old : ℕ → ℤ) (held : ℕ → ℕ → ℤ)
-    → HoldsRefined (loop M) top held old → EachNamesItsChanges (loop M) cs old → HoldsRefined (loop M) top (afterAll (loop M) cs held) (lastControl (loop M) cs old)
-loop-refreshes-are-refinement M S = refreshes-are-refinement (loop M) (loop-grounded M S)

@@ -1,19 +1,14 @@
 -- The ring edits (document 01, "Ring rules"), for a ring without repeats. An inserted number comes between two that were neighbours,
 -- an erased one leaves its neighbours next to one another, a replaced one is followed and preceded as the old one was; everything else keeps its neighbours.
--- And where the new number may stand in v's ring, the edited ring is as proper as the ring was; all other rings are untouched.
 -- Which entries there are after an edit, and how many, is in `EditedEntries`.
 -- Assumes nothing.
 use mathlib.Core.Path.{_≡_, refl, sym, ap, _∙_, subst}
 use mathlib.Core.List.{List}
-use mathlib.Core.Logic.{_⊎_, inl, inr, ⊎-elim, _≢_}
 use Prim.Native.Nat.{ℕ, suc, _≤_, _<_}
 use native.Mathlib.Omega.{arith}
 use lib.ListN.{length}
-use borrow.Author.Tests.{eq-eqb, ne-eqb}
-use Rattle.mesh.specs.Limits.{mostValence}
 use Rattle.mesh.specs.Ring.{_∈_, Distinct, place, next, prev}
-use Rattle.mesh.specs.Mesh.{Mesh, Proper}
-use Rattle.mesh.specs.Edits.{closed, opened, erase, replace, insertAfter, insertBefore, withRing}
+use Rattle.mesh.specs.Edits.{closed, opened, erase, replace, insertAfter, insertBefore}
 use Rattle.mesh.proofs.Rings.{place-lt, getD-place, prev-at, next-prev}
 use Rattle.mesh.proofs.EditPlaces.{opened-closed}
 use Rattle.mesh.proofs.EditedEntries as X
@@ -61,48 +56,3 @@ module _ (l : List ℕ) (o : Distinct l) where
   after-replace a x m n = rw (X.replace-there a l m x) (set-renames a x l o m n)
 
 -- ---- properness
-
-module _ (M : Mesh) (v : ℕ) where
-  -- other rings are as they were
-  pub other-rings-stay : (l : List ℕ) (u : ℕ) → u ≢ v → withRing M v l .ring u ≡ M .ring u
-  unfolding withRing
-  other-rings-stay l u d = rw (ne-eqb u v d)
-
-  -- a list made the ring of v: at most 32 numbers below V, without v, without repeats
-  pub proper-make : (l : List ℕ) → length l ≤ mostValence → ((u : ℕ) → u ∈ l → u < M .count) → (v ∈ l → ⊥) → Distinct l → Proper (withRing M v l) v
-  unfolding withRing
-  proper-make l short known other distinct = record { short = rw (eq-eqb v v refl) short; known = rw (eq-eqb v v refl) known; other = rw (eq-eqb v v refl) other; distinct = rw (eq-eqb v v refl) distinct }
-
-  module _ (P : Proper M v) where
-    pub proper-erase : (x : ℕ) → x ∈ M .ring v → Proper (withRing M v (erase x (M .ring v))) v
-    proper-erase x m =
-        let l : List ℕ = M .ring v in
-        let i : (u : ℕ) → u ∈ erase x l → u ∈ l = λ u k. X.erase-in l (P .distinct) x u m .0 k .0 in
-        proper-make (erase x l) (omega (arith, X.erase-length x l m, P .short)) (λ u k. P .known u (i u k)) (λ k. P .other (i v k)) (X.erase-distinct l (P .distinct) x m)
-
-    -- a new x that may stand in v's ring
-    module _ (a x : ℕ) (m : a ∈ M .ring v) (known : x < M .count) (other : x ≢ v) (new : x ∈ M .ring v → ⊥) where
-      with-new : (l : List ℕ) → length l ≤ mostValence → ((u : ℕ) → u ∈ l → (u ≡ x) ⊎ (u ∈ M .ring v)) → Distinct l → Proper (withRing M v l) v
-      with-new l short from distinct =
-          proper-make l short
-          (λ u k. ⊎-elim (λ e. subst (λ t. t < M .count) (sym e) known) (P .known u) (from u k))
-          (λ k. ⊎-elim (λ e. other (sym e)) (P .other) (from v k))
-          distinct
-
-      pub proper-replace : Proper (withRing M v (replace a x (M .ring v))) v
-      proper-replace =
-          let l : List ℕ = M .ring v in
-          with-new (replace a x l) (omega (arith, X.replace-length a l m x, P .short))
-          (λ u k. ⊎-elim (λ e. inl e) (λ s. inr (s .0)) (X.replace-in l (P .distinct) a x m new u .0 k)) (X.replace-distinct l (P .distinct) a x m new)
-
-      pub proper-insert-after : length (M .ring v) < mostValence → Proper (withRing M v (insertAfter a x (M .ring v))) v
-      proper-insert-after room =
-          let l : List ℕ = M .ring v in
-          with-new (insertAfter a x l) (omega (arith, X.insert-after-length a l m x)) (λ u. X.insert-after-in l (P .distinct) a x m new u .0)
-          (X.insert-after-distinct l (P .distinct) a x m new)
-
-      pub proper-insert-before : length (M .ring v) < mostValence → Proper (withRing M v (insertBefore a x (M .ring v))) v
-      proper-insert-before room =
-          let l : List ℕ = M .ring v in
-          with-new (insertBefore a x l) (omega (arith, X.insert-before-length a l m x)) (λ u. X.insert-before-in l (P .distinct) a x m new u .0)
-          (X.insert-before-distinct l (P .distinct) a x m new)

@@ -68,9 +68,6 @@ module _ (l : List ℕ) (o : Distinct l) where
   pub prev-is-what-it-follows : (x y : ℕ) → x ∈ l → next l x ≡ y → prev l y ≡ x
   prev-is-what-it-follows x y m e = ap (prev l) (sym e) ∙ prev-of-next x m
 
-  pub next-injective : (x y : ℕ) → x ∈ l → y ∈ l → next l x ≡ next l y → x ≡ y
-  next-injective x y m n e = sym (prev-of-next x m) ∙ ap (prev l) e ∙ prev-of-next y n
-
 -- ---- there, or absent by name
 
 module _ (x : ℕ) (l : List ℕ) where

@@ -1,12 +1,11 @@
--- The touched points of any family of masks (document 01, "Moves"): they depend only on which control vertices are named; with none named none is touched;
--- with more named no fewer are; and so for their count.
+-- The touched points of any family of masks (document 01, "Moves"): they depend only on which control vertices are named, and so does their count;
+-- with none named none is touched; with more named no fewer are.
 -- Assumes nothing.
 use mathlib.Core.Path.{_≡_, refl, ap}
 use mathlib.Core.Bool.{Bool, true, false, _||_}
 use mathlib.Core.List.{List, [], _∷_}
-use Prim.Native.Nat.{ℕ, zero, suc, _≤_, _<_}
-use native.Mathlib.Omega.{arith}
-use Rattle.mesh.specs.Search.{bit, sum}
+use Prim.Native.Nat.{ℕ, zero, suc, _<_}
+use Rattle.mesh.specs.Search.{bit}
 use Rattle.mesh.specs.Mask.{Term, anySource, SourcesBelow, Steps, Grounded, touched, touchedCount}
 use Rattle.mesh.proofs.Lists.{sum-same, sum-zero}
 
@@ -52,14 +51,6 @@ module _ (S : Steps) (grounded : Grounded S) where
 
 -- ---- their count
 
-sum-most : (f g : ℕ → ℕ) (n : ℕ) → ((i : ℕ) → i < n → f i ≤ g i) → sum f n ≤ sum g n
-sum-most f g zero h = omega arith
-sum-most f g (suc n) h = omega (arith, sum-most f g n (λ i k. h i (omega arith)), h n (omega arith))
-
-bit-most : (b c : Bool) → (b ≡ true → c ≡ true) → bit b ≤ bit c
-bit-most true c h = rw (h refl) (omega arith)
-bit-most false c h = omega arith
-
 module _ (S : Steps) (grounded : Grounded S) where
   pub count-same : (named named′ : ℕ → Bool) → ((v : ℕ) → v < S .size 0 → named v ≡ named′ v) → (n : ℕ) → touchedCount S named n ≡ touchedCount S named′ n
   unfolding touchedCount
@@ -68,7 +59,3 @@ module _ (S : Steps) (grounded : Grounded S) where
   pub count-none : (named : ℕ → Bool) → ((v : ℕ) → v < S .size 0 → named v ≡ false) → (n : ℕ) → touchedCount S named n ≡ 0
   unfolding touchedCount
   count-none named none n = sum-zero _ n (λ k h. sum-zero _ (S .size k) (λ x g. ap bit (touched-none S grounded named none k x g)))
-
-  pub count-more : (named named′ : ℕ → Bool) → ((v : ℕ) → v < S .size 0 → named v ≡ true → named′ v ≡ true) → (n : ℕ) → touchedCount S named n ≤ touchedCount S named′ n
-  unfolding touchedCount
-  count-more named named′ more n = sum-most _ _ n (λ k h. sum-most _ _ (S .size k) (λ x g. bit-most _ _ (touched-more S grounded named named′ more k x g)))

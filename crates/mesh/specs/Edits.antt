@@ -4,9 +4,7 @@ use mathlib.Core.Bool.{cond}
 use mathlib.Core.List.{List, _∷_, _++_}
 use Prim.Native.Nat.{ℕ, suc}
 use lib.ListN.{take, drop, set}
-use lib.Dec.{eqb}
 use Rattle.mesh.specs.Ring.{has, place}
-use Rattle.mesh.specs.Mesh.{Mesh}
 
 -- the list without its place i: later places close up
 unfoldable pub closed : List ℕ → ℕ → List ℕ
@@ -31,7 +29,3 @@ insertAfter a x l = cond (has a l) (opened l (suc (place a l)) x) l
 -- the ring with x before a
 unfoldable pub insertBefore : ℕ → ℕ → List ℕ → List ℕ
 insertBefore a x l = cond (has a l) (opened l (place a l) x) l
-
--- the mesh with l as the ring of v, all other rings as they were: what make does of a list, and an edit of the ring it leaves
-unfoldable pub withRing : Mesh → ℕ → List ℕ → Mesh
-withRing M v l = record { count = M .count; ring = λ u. cond (eqb u v) l (M .ring u) }
