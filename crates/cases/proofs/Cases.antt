@@ -30,7 +30,7 @@ use Rattle.meshfile.specs.Layout.{fileCount, rowAt, fileValence, fileRing, file
 use Rattle.numerals.specs.Numerals as numerals
 use Rattle.listing_text.specs.Listing.{levelText}
 use Rattle.numerals.specs.Numerals.{digits, signed}
-use Rattle.listing_text.specs.Lines.{countsLine, vertexLine}
+use Rattle.listing_lines.specs.Lines.{countsLine, vertexLine}
 use Rattle.file_reading.specs.Read.{readVerdict, readRings}
 use Rattle.meshfile.specs.Bytes.{recordOf, numberAt, lengthAt, kindAt, afterAt, wholeAt}
 use Rattle.file_writing.specs.Write.{payloadOf, fileOf}

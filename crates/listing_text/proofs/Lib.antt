@@ -1,3 +1,2 @@
 -- Laws of the listing's text.
-pub mod Writing
 pub mod Outcome

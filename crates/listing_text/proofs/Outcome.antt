@@ -27,7 +27,7 @@ use Rattle.stack_judge.proofs.AcceptedStack.{stack-only}
 use Rattle.stack_judge.proofs.Sizes.{level-count, start-none, start-suc}
 use Rattle.file_reading.specs.Read.{readAnswer, readValences, readRings, readPositions}
 use Rattle.numerals.specs.Wrote.{Wrote}
-use Rattle.listing_text.specs.Lines.{countsLine, vertexLine, refusedLine}
+use Rattle.listing_lines.specs.Lines.{countsLine, vertexLine, refusedLine}
 use Rattle.listing_text.specs.Listing.{levelText, refinedText, meshText, fileText, listingText}
 
 -- a stack of one level has the control vertices and those of level 1

@@ -1,3 +1,2 @@
--- The listing: its lines, and the whole text.
-pub mod Lines
+-- The whole text of the listing.
 pub mod Listing

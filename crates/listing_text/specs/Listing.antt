@@ -17,7 +17,7 @@ use Rattle.rings.specs.declared.Counted.the-variants as counted
 use Rattle.rings.specs.declared.Counted.the-variants.{Counts}
 use Rattle.refine.specs.Refinement.{refineAnswer, refineValences, refinePositions}
 use Rattle.file_reading.specs.Read.{readAnswer, readValences, readRings, readPositions}
-use Rattle.listing_text.specs.Lines.{countsLine, vertexLine, refusedLine}
+use Rattle.listing_lines.specs.Lines.{countsLine, vertexLine, refusedLine}
 
 -- level 1 behind n control vertices, where refinement answers so and leaves these tables
 unfoldable pub levelText : ℕ → List ℕ → List ℤ → Counted → List ℕ

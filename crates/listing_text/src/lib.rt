@@ -7,15 +7,13 @@ ghost use Rattle.rings.specs.Table.{put};
 ghost use Rattle.listing_text.specs.Listing.{refinedText, fileText, listingText};
 ghost use Rattle.numerals.specs.Wrote.{Wrote};
 use file_reading::read;
-use lines::LEVEL;
-use lines::put_level;
-use lines::put_refused;
+use listing_lines::LEVEL;
+use listing_lines::put_level;
+use listing_lines::put_refused;
 use refine::refine;
 use rings::Amount;
 use rings::Counted;
 use rings::Refusal;
-
-pub mod lines;
 
 // The most bytes of an input.
 pub const MOST_BYTES: usize = 16384;

@@ -14,7 +14,7 @@ use lib.IntN.{ℤ, pos}
 use Rattle.rings.specs.Table.{coordinateAt}
 use Rattle.rings.specs.Refusal.{numberOf, placeOf}
 use Rattle.rings.specs.declared.Refusal.{Refusal}
-use Rattle.listing_text.specs.Lines.{blank, newline, vertexLine, word, refusedLine}
+use Rattle.listing_lines.specs.Lines.{blank, newline, vertexLine, word, refusedLine}
 
 pub vertex-wrote : {l m₁ m₂ m₃ m₄ m : List ℕ} {i k₁ k₂ k₃ k₄ k : ℕ} (vs : List ℕ) (ps : List ℤ) (base j : ℕ) → Wrote l i (number j blank) m₁ k₁ 21
     → Wrote m₁ k₁ (signed (getD ps ((base + j) * 3) (pos 0)) blank) m₂ k₂ 22

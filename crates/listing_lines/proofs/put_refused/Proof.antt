@@ -1,8 +1,8 @@
 -- `put_refused` meets its contract. Assumes nothing.
-use Rattle.listing_text.proofs.Writing.{refused-wrote}
+use Rattle.listing_lines.proofs.LinesWritten.{refused-wrote}
 use borrow.Author.Needs.{needs}
-use Rattle.listing_text.proofs.lines.put_refused.Statement.{statement}
-use Rattle.listing_text.proofs.lines.put_refused.Tie as tie
+use Rattle.listing_lines.proofs.put_refused.Statement.{statement}
+use Rattle.listing_lines.proofs.put_refused.Tie as tie
 
 put-word-requires : tie.Need-put-word-requires
 put-word-requires c κs = search needs

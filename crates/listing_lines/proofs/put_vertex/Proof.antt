@@ -1,10 +1,10 @@
 -- `put_vertex` meets its contract. Assumes nothing.
 use Prim.Native.Nat.{_+_}
 use native.Mathlib.Omega.{arith}
-use Rattle.listing_text.proofs.Writing.{vertex-wrote}
+use Rattle.listing_lines.proofs.LinesWritten.{vertex-wrote}
 use borrow.Author.Needs.{needs}
-use Rattle.listing_text.proofs.lines.put_vertex.Statement.{statement}
-use Rattle.listing_text.proofs.lines.put_vertex.Tie as tie
+use Rattle.listing_lines.proofs.put_vertex.Statement.{statement}
+use Rattle.listing_lines.proofs.put_vertex.Tie as tie
 
 add-v : tie.Need-add-v
 add-v c = search needs

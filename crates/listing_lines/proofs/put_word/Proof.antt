@@ -1,10 +1,10 @@
 -- `put_word` meets its contract. Assumes nothing.
 use native.Mathlib.Omega.{arith}
 use lib.ListN.{length-set}
-use Rattle.listing_text.proofs.Writing.{word-put}
+use Rattle.listing_lines.proofs.LinesWritten.{word-put}
 use borrow.Author.Needs.{needs}
-use Rattle.listing_text.proofs.lines.put_word.Statement.{statement}
-use Rattle.listing_text.proofs.lines.put_word.Tie as tie
+use Rattle.listing_lines.proofs.put_word.Statement.{statement}
+use Rattle.listing_lines.proofs.put_word.Tie as tie
 
 slice-write-text : tie.Need-slice-write-text
 slice-write-text c = search needs

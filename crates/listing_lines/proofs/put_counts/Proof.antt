@@ -1,10 +1,10 @@
 -- `put_counts` meets its contract. Assumes nothing.
 use native.Mathlib.Omega.{arith}
-use Rattle.listing_text.specs.Lines.{countsLine}
+use Rattle.listing_lines.specs.Lines.{countsLine}
 use Rattle.numerals.proofs.Writing.{wrote-then}
 use borrow.Author.Needs.{needs}
-use Rattle.listing_text.proofs.lines.put_counts.Statement.{statement}
-use Rattle.listing_text.proofs.lines.put_counts.Tie as tie
+use Rattle.listing_lines.proofs.put_counts.Statement.{statement}
+use Rattle.listing_lines.proofs.put_counts.Tie as tie
 
 put-number-requires : tie.Need-put-number-requires
 put-number-requires c κs = search needs

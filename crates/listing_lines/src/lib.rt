@@ -4,7 +4,7 @@ ghost use Prim.Native.Nat.{_+_, _*_, _<_, _≤_};
 ghost use lib.ListN.{length};
 ghost use Rattle.rings.specs.Table.{gather};
 ghost use Rattle.meshfile.specs.Blocks.{Put};
-ghost use Rattle.listing_text.specs.Lines.{word, countsLine, vertexLine, refusedLine};
+ghost use Rattle.listing_lines.specs.Lines.{word, countsLine, vertexLine, refusedLine};
 ghost use Rattle.numerals.specs.Wrote.{Wrote};
 use numerals::put_coordinate;
 use numerals::put_number;

@@ -2,8 +2,8 @@
 use native.Mathlib.Omega.{arith}
 use Rattle.numerals.proofs.Writing.{wrote-then}
 use borrow.Author.Needs.{needs}
-use Rattle.listing_text.proofs.lines.put_level.Statement.{statement}
-use Rattle.listing_text.proofs.lines.put_level.Tie as tie
+use Rattle.listing_lines.proofs.put_level.Statement.{statement}
+use Rattle.listing_lines.proofs.put_level.Tie as tie
 
 put-counts-requires : tie.Need-put-counts-requires
 put-counts-requires c κs = search needs

@@ -3,11 +3,11 @@ use native.Mathlib.Omega.{arith}
 use borrow.Author.Needs.{needs}
 use Prim.Native.Nat.{_-_, _*_, _≤_}
 use Rattle.rings.specs.Table.{gather}
-use Rattle.listing_text.specs.Lines.{vertexLine}
+use Rattle.listing_lines.specs.Lines.{vertexLine}
 use Rattle.numerals.specs.Wrote.{Wrote}
 use Rattle.numerals.proofs.Writing.{wrote-none, wrote-length, rows-more, rows-all}
-use Rattle.listing_text.proofs.lines.put_vertices.Statement.{statement}
-use Rattle.listing_text.proofs.lines.put_vertices.Tie as tie
+use Rattle.listing_lines.proofs.put_vertices.Statement.{statement}
+use Rattle.listing_lines.proofs.put_vertices.Tie as tie
 
 abbrev Inv-loop : tie.InvT-loop
 Inv-loop text₀ at valences positions base count end₀ j₀ text end j = (j ≤ count) × Wrote text₀ at (gather (vertexLine valences positions base) j) text end (j * 108)

@@ -1,0 +1,2 @@
+-- Laws of the lines as they are written.
+pub mod LinesWritten
