@@ -43,7 +43,9 @@ climbing-none = record { ascends = record { later = λ x y l h. absurd (omega ar
 
 climbing-more : {rings : List ℕ} {least k : ℕ} → Climbing rings least k → least ≤ edgeKey rings k → Climbing rings (edgeKey rings k + 1) (k + 1)
 climbing-more {rings} {least} {k} t h = record {
-  ascends = record { later = λ x y l g. ⊎-elim (λ s. t .ascends .later x y l (s .1)) (λ s. let m = s .1 in let e : y ≡ k = omega arith in rw e (let w = t .less x (omega arith) in omega arith)) (lt-split y k) };
+  ascends =
+      record
+      { later = λ x y l g. ⊎-elim (λ s. t .ascends .later x y l (s .1)) (λ s. let m = s .1 in let e : y ≡ k = omega arith in rw e (let w = t .less x (omega arith) in omega arith)) (lt-split y k) };
   less = λ x l. ⊎-elim (λ s. let w = t .less x (s .1) in omega arith) (λ s. let m = s .1 in let e : x ≡ k = omega arith in rw e (omega arith)) (lt-split x k);
 }
 
@@ -77,7 +79,10 @@ module _ {row next above : List ℕ} {n end p : ℕ} where
   module _ {before x i : ℕ} (t : Walked row next above n end p before x i) where
     walked-place : (after k : ℕ) → k ≡ placeAfter (length row) i → after ≡ getD next k 0 → EdgeVertex above n end p (getD row i 0) x before after → (j : ℕ) → j < i + 1
         → EdgeVertex above n end p (getD row j 0) (getD next j 0) (getD next (placeBefore (length row) j) 0) (getD next (placeAfter (length row) j) 0)
-    walked-place after k e a h = below-more (λ (j : ℕ). EdgeVertex above n end p (getD row j 0) (getD next j 0) (getD next (placeBefore (length row) j) 0) (getD next (placeAfter (length row) j) 0)) i (t .place)
+    walked-place after k e a h =
+        below-more
+        (λ (j : ℕ). EdgeVertex above n end p (getD row j 0) (getD next j 0) (getD next (placeBefore (length row) j) 0) (getD next (placeAfter (length row) j) 0)) i
+        (t .place)
         (rw (← t .here, ← t .behind, ← e, ← a) h)
 
     pub walked-more : i < length row - 1 → EdgeVertex above n end p (getD row i 0) x before (getD next (i + 1) 0) → Walked row next above n end p x (getD next (i + 1) 0) (i + 1)

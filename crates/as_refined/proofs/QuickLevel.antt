@@ -89,10 +89,15 @@ module _ {n : ℕ} {vs rs : List ℕ} (r : Ready n vs rs) where
         rw (key-of (x - n), key-of (y - n), a, b) at (ascend .later (x - n) (y - n) (omega arith) (omega arith))
 
     key-less : (x y : ℕ) → x < n + edges M → n ≤ y → key x < key y → x < y
-    key-less x y g h l = ⊎-elim (λ s. s .1) (λ s. let m = s .1 in ⊎-elim (λ t. let w = key-later y x h (t .1) g in absurd (omega arith)) (λ t. let w = t .1 in let z : x ≡ y = omega arith in let v : key x ≡ key y = ap key z in absurd (omega arith)) (lt-split y x)) (lt-split x y)
+    key-less x y g h l =
+        ⊎-elim (λ s. s .1)
+        (λ s. let m = s .1 in ⊎-elim (λ t. let w = key-later y x h (t .1) g in absurd (omega arith)) (λ t. let w = t .1 in let z : x ≡ y = omega arith in let v : key x ≡ key y = ap key z in absurd (omega arith)) (lt-split y x))
+        (lt-split x y)
 
     key-same : (x y : ℕ) → n ≤ x → x < n + edges M → n ≤ y → y < n + edges M → key x ≡ key y → x ≡ y
-    key-same x y h g h′ g′ e = ⊎-elim (λ s. let w = key-later x y h (s .1) g′ in absurd (omega arith)) (λ s. let m = s .1 in ⊎-elim (λ t. let w = key-later y x h′ (t .1) g in absurd (omega arith)) (λ t. let w = t .1 in omega arith) (lt-split y x)) (lt-split x y)
+    key-same x y h g h′ g′ e =
+        ⊎-elim (λ s. let w = key-later x y h (s .1) g′ in absurd (omega arith))
+        (λ s. let m = s .1 in ⊎-elim (λ t. let w = key-later y x h′ (t .1) g in absurd (omega arith)) (λ t. let w = t .1 in omega arith) (lt-split y x)) (lt-split x y)
 
     six-at : (x k : ℕ) → k < 6 → getD (take 6 (drop (x * 32) above)) k 0 ≡ getD rs ((n + x) * 32 + k) 0
     six-at x k h =
@@ -313,10 +318,15 @@ module _ {n : ℕ} {vs rs : List ℕ} (r : Ready n vs rs) where
         p-after = let k = after-lt (getD vs p 0) i l in next-entry p (placeAfter (getD vs p 0) i) k ∙ old-after r p i h l has-old-rows (placeAfter (getD vs p 0) i) refl k
 
         q-before : getD (ringOf vs above q) (placeBefore (getD vs q 0) j) 0 ≡ mid M q (prev (ringOf vs rs q) (getD (ringOf vs rs q) j 0))
-        q-before = let a = at-place q p q-lt p-in in let k = before-lt (getD vs q 0) j a in next-entry q (placeBefore (getD vs q 0) j) k ∙ old-before r q j q-lt a has-old-rows (placeBefore (getD vs q 0) j) refl k
+        q-before =
+            let a = at-place q p q-lt p-in in
+            let k = before-lt (getD vs q 0) j a in
+            next-entry q (placeBefore (getD vs q 0) j) k ∙ old-before r q j q-lt a has-old-rows (placeBefore (getD vs q 0) j) refl k
 
         q-after : getD (ringOf vs above q) (placeAfter (getD vs q 0) j) 0 ≡ mid M q (next (ringOf vs rs q) (getD (ringOf vs rs q) j 0))
-        q-after = let a = at-place q p q-lt p-in in let k = after-lt (getD vs q 0) j a in next-entry q (placeAfter (getD vs q 0) j) k ∙ old-after r q j q-lt a has-old-rows (placeAfter (getD vs q 0) j) refl k
+        q-after =
+            let a = at-place q p q-lt p-in in
+            let k = after-lt (getD vs q 0) j a in next-entry q (placeAfter (getD vs q 0) j) k ∙ old-after r q j q-lt a has-old-rows (placeAfter (getD vs q 0) j) refl k
 
         x-range : (n ≤ x) × (x < n + edges M)
         x-range = let t = named-edge p i h l in (t .low, t .high)

@@ -166,7 +166,9 @@ module _ (n levels : ℕ) (vs rs : List ℕ) (ps : List ℤ) (a : AcceptsStack n
 
     pub part-ready : Ready (size n vs rs k) (valencesFrom n vs rs k) (ringsFrom n vs rs k)
     part-ready = record {
-      room = rw part-edges (record { valences = let b = both in let r = a .room .valences in rw length-drop (omega arith); rings = let b = both in let r = a .room .rings in rw length-drop (omega arith) });
+      room =
+          rw part-edges
+          (record { valences = let b = both in let r = a .room .valences in rw length-drop (omega arith); rings = let b = both in let r = a .room .rings in rw length-drop (omega arith) });
       most = t .most;
       sound = rw (t .mesh) (level-sound M (a .control .sound) k);
       fits = rw part-edges (a .fits (suc k) l);

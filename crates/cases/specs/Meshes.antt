@@ -45,7 +45,9 @@ roomy t = t ++ (t ++ (t ++ t))
 
 -- the listing's points of level 1, x, y, z
 abbrev pub listed : List ℤ
-listed = map pos (192 ∷ 192 ∷ 192 ∷ 448 ∷ 192 ∷ 192 ∷ 192 ∷ 448 ∷ 192 ∷ 192 ∷ 192 ∷ 448 ∷ 384 ∷ 128 ∷ 128 ∷ 128 ∷ 384 ∷ 128 ∷ 128 ∷ 128 ∷ 384 ∷ 384 ∷ 384 ∷ 128 ∷ 384 ∷ 128 ∷ 384 ∷ 128 ∷ 384 ∷ 384 ∷ [])
+listed =
+    map pos
+    (192 ∷ 192 ∷ 192 ∷ 448 ∷ 192 ∷ 192 ∷ 192 ∷ 448 ∷ 192 ∷ 192 ∷ 192 ∷ 448 ∷ 384 ∷ 128 ∷ 128 ∷ 128 ∷ 384 ∷ 128 ∷ 128 ∷ 128 ∷ 384 ∷ 384 ∷ 384 ∷ 128 ∷ 384 ∷ 128 ∷ 384 ∷ 128 ∷ 384 ∷ 384 ∷ [])
 
 -- what the listing program prints of T, line by line, as bytes
 abbrev pub printed : List ℕ

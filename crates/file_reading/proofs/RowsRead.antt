@@ -65,7 +65,8 @@ ring-padded {s} {l} {m} {t} {v} {at} {n} {k} r p q e =
     let ring = fileRing s v in
     let h : length ring ≡ n = length-ring s v ∙ sym (row-valence r) in
     let x : 32 ≡ n + (32 - length ring) = let w = r .most in omega arith in
-    let y : replicate {A = ℕ} 32 65535 ≡ replicate n 65535 ++ replicate (32 - length ring) 65535 = ap (λ (j : ℕ). replicate {A = ℕ} j 65535) x ∙ sym (replicate-append-replicate n (32 - length ring) 65535) in
+    let y : replicate {A = ℕ} 32 65535 ≡ replicate n 65535 ++ replicate (32 - length ring) 65535 =
+    ap (λ (j : ℕ). replicate {A = ℕ} j 65535) x ∙ sym (replicate-append-replicate n (32 - length ring) 65535) in
     renewed (replicate n 65535) (replicate (32 - length ring) 65535) ring (put-is y p) (subst (λ (j : ℕ). Put m j ring t) e (put-is (ring-here r) q)) (h ∙ sym (length-replicate {A = ℕ} n 65535))
 
 -- four elements

@@ -26,7 +26,9 @@ fn settle_records(
     levels: usize,
 ) -> ValueAnswer
     requires { ⌜ Fair plan ⌝ }
-    ensures { λ r. ⌜ (valuePaper r ≡ paperAmount (settleAnswer plan moves levels (now (valences .entry)) (now (rings .entry)) (now (positions .entry)) (now (map .entry)))) × (now (positions .exit) ≡ settlePositions plan moves levels (now (valences .entry)) (now (rings .entry)) (now (positions .entry)) (now (map .entry))) × (now (map .exit) ≡ settleMap plan moves levels (now (valences .entry)) (now (rings .entry)) (now (positions .entry)) (now (map .entry))) ⌝ }
+    ensures { λ r. ⌜ (valuePaper r ≡ paperAmount (settleAnswer plan moves levels (now (valences .entry)) (now (rings .entry)) (now (positions .entry)) (now (map .entry))))
+        × (now (positions .exit) ≡ settlePositions plan moves levels (now (valences .entry)) (now (rings .entry)) (now (positions .entry)) (now (map .entry)))
+        × (now (map .exit) ≡ settleMap plan moves levels (now (valences .entry)) (now (rings .entry)) (now (positions .entry)) (now (map .entry))) ⌝ }
 {
     of_amount(settle(plan, moves, valences, rings, positions, map, levels))
 }
@@ -43,7 +45,9 @@ pub extern "C" fn gt_moves(
     levels: usize,
     list: &[MoveRecord],
 ) -> ValueAnswer
-    ensures { λ r. ⌜ (valuePaper r ≡ recordsAnswer count levels (now (valences .entry)) (now (rings .entry)) (now (positions .entry)) (now (map .entry)) (now (list .entry))) × (now (positions .exit) ≡ applyPositions count levels (now (valences .entry)) (now (rings .entry)) (now (positions .entry)) (now (map .entry)) (movesOf (now (list .entry)))) × (now (map .exit) ≡ applyMap count levels (now (valences .entry)) (now (rings .entry)) (now (positions .entry)) (now (map .entry)) (movesOf (now (list .entry)))) ⌝ }
+    ensures { λ r. ⌜ (valuePaper r ≡ recordsAnswer count levels (now (valences .entry)) (now (rings .entry)) (now (positions .entry)) (now (map .entry)) (now (list .entry)))
+        × (now (positions .exit) ≡ applyPositions count levels (now (valences .entry)) (now (rings .entry)) (now (positions .entry)) (now (map .entry)) (movesOf (now (list .entry))))
+        × (now (map .exit) ≡ applyMap count levels (now (valences .entry)) (now (rings .entry)) (now (positions .entry)) (now (map .entry)) (movesOf (now (list .entry)))) ⌝ }
 {
     by_kinds(
         list,

@@ -52,7 +52,9 @@ module _ {n : ℕ} {vs rs : List ℕ} (r : Ready n vs rs) (p i : ℕ) (h : p < n
         let y : ℕ = numberAt n vs rs p i in
         let e′ : new ≡ put (set (set (set rs ((n + y) * 32) p) ((n + y) * 32 + 1) b) ((n + y) * 32 + 5) a) ((n + y) * 32 + 6) (replicate 26 65535) =
         subst (λ (x : ℕ). new ≡ put (set (set (set rs ((n + x) * 32) p) ((n + x) * 32 + 1) b) ((n + x) * 32 + 5) a) ((n + x) * 32 + 6) (replicate 26 65535)) ex e in
-        let w = low-half T rs ((n + y) * 32) p b a (edge-row y refl .1) (low-p r p i h l q refl low) (eb ∙ low-before r p i h l q refl low) (ea ∙ low-after r p i h l q refl low) (low-unused r p i h l q refl low) e′ in
+        let w =
+        low-half T rs ((n + y) * 32) p b a (edge-row y refl .1) (low-p r p i h l q refl low) (eb ∙ low-before r p i h l q refl low) (ea ∙ low-after r p i h l q refl low)
+        (low-unused r p i h l q refl low) e′ in
         record {
           nearer = w .nearer;
           low = λ u j d. at-place

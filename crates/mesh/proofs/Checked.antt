@@ -83,7 +83,9 @@ module _ (M : Mesh) where
       let l : List ℕ = M .ring v in
       let w : ℕ = getD l (placeAfter (length l) (place u l)) 0 in
       let k = some-all (openAt M v) (length l) e .below (place u l) (place-lt u l m) in
-      let b = or-false (not (follows (M .ring w) v u)) (not (follows (M .ring u) w v)) (subst (λ (x : ℕ). (not (follows (M .ring w) v x) || not (follows (M .ring x) w v)) ≡ false) (getD-place u l 0 m) k) in
+      let b =
+      or-false (not (follows (M .ring w) v u)) (not (follows (M .ring u) w v))
+      (subst (λ (x : ℕ). (not (follows (M .ring w) v x) || not (follows (M .ring x) w v)) ≡ false) (getD-place u l 0 m) k) in
       (follows-true (M .ring w) v u (not-false _ (b .0)), follows-true (M .ring u) w v (not-false _ (b .1)))
 
   pub of-face : (v : ℕ) → Distinct (M .ring v) → ((u : ℕ) → u ∈ M .ring v → let w = next (M .ring v) u in Follows (M .ring w) v u × Follows (M .ring u) w v) → openFaced M v ≡ false

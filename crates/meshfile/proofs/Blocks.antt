@@ -84,7 +84,11 @@ module _ {A : Type 0} where
       ∙ ap (λ (t : ℕ). drop t l) (let h : i + length (a ++ b) + length c ≡ i + length (a ++ (b ++ c)) = omega arith in h) in
       record {
         fits = let h = q .fits in let j = put-length p in omega arith;
-        is = q .is ∙ ap₂ (λ (s t : List A). s ++ ((b ++ c) ++ t)) x y ∙ append-assoc (take i l) a ((b ++ c) ++ drop (i + length (a ++ (b ++ c))) l) ∙ ap (λ (t : List A). take i l ++ t) (sym (append-assoc a (b ++ c) (drop (i + length (a ++ (b ++ c))) l)));
+        is =
+            q .is
+            ∙ ap₂ (λ (s t : List A). s ++ ((b ++ c) ++ t)) x y
+            ∙ append-assoc (take i l) a ((b ++ c) ++ drop (i + length (a ++ (b ++ c))) l)
+            ∙ ap (λ (t : List A). take i l ++ t) (sym (append-assoc a (b ++ c) (drop (i + length (a ++ (b ++ c))) l)));
       }
 
   -- the block under another name, or at an equal place

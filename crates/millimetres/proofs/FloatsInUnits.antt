@@ -31,7 +31,9 @@ le-of-test a b same r g t = go (ltb a b) same (ltb→lt a b) g t
 
 below-top : (m : ℕ) (e : ℤ) → T (le (fin false m e) (fin false 1 (pos 10))) → m * up e ≤ 1024 * down e
 unfolding le lt eq
-below-top m e t = subst (λ (x : ℕ). x ≤ 1024 * down e) (mul-one (m * up e)) (le-of-test (m * up e * 1) (1024 * down e) (eqb (m * up e * 1) (1024 * down e)) true (eqb→eq (m * up e * 1) (1024 * down e)) t)
+below-top m e t =
+    subst (λ (x : ℕ). x ≤ 1024 * down e) (mul-one (m * up e))
+    (le-of-test (m * up e * 1) (1024 * down e) (eqb (m * up e * 1) (1024 * down e)) true (eqb→eq (m * up e * 1) (1024 * down e)) t)
 
 above-bottom : (m : ℕ) (e : ℤ) → T (le (fin true 1 (pos 10)) (fin true m e)) → m * up e ≤ 1024 * down e
 unfolding le lt eq

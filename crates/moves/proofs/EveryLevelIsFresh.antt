@@ -102,7 +102,8 @@ module _ (n levels : ℕ) (vs rs : List ℕ) (ps : List ℤ) where
               (λ j y i l. f .fresh axis b j y i l)
               (λ v l q. control-changes n levels vs rs ps map ms e .same v axis b q)
               k x h g
-              ∙ refined-same (loop M) grounded (coordinateAt control axis) (coordinateAt (applyPositions n levels vs rs ps map ms) axis) (λ v l. sym (control-after n levels vs rs ps map ms e axis b v l)) k x g;
+              ∙ refined-same (loop M) grounded (coordinateAt control axis) (coordinateAt (applyPositions n levels vs rs ps map ms) axis)
+              (λ v l. sym (control-after n levels vs rs ps map ms e axis b v l)) k x g;
         }
 
     -- a list keeps fresh tables fresh

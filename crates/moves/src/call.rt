@@ -89,7 +89,9 @@ pub fn settle(
     levels: usize,
 ) -> Amount
     requires { ⌜ Fair plan ⌝ }
-    ensures { λ r. ⌜ (r ≡ settleAnswer plan moves levels (now (valences .entry)) (now (rings .entry)) (now (positions .entry)) (now (map .entry))) × (now (positions .exit) ≡ settlePositions plan moves levels (now (valences .entry)) (now (rings .entry)) (now (positions .entry)) (now (map .entry))) × (now (map .exit) ≡ settleMap plan moves levels (now (valences .entry)) (now (rings .entry)) (now (positions .entry)) (now (map .entry))) ⌝ }
+    ensures { λ r. ⌜ (r ≡ settleAnswer plan moves levels (now (valences .entry)) (now (rings .entry)) (now (positions .entry)) (now (map .entry)))
+        × (now (positions .exit) ≡ settlePositions plan moves levels (now (valences .entry)) (now (rings .entry)) (now (positions .entry)) (now (map .entry)))
+        × (now (map .exit) ≡ settleMap plan moves levels (now (valences .entry)) (now (rings .entry)) (now (positions .entry)) (now (map .entry))) ⌝ }
 {
     let count = plan.count;
     let words = map.len();
@@ -130,7 +132,9 @@ pub fn apply(
     count: usize,
     levels: usize,
 ) -> Amount
-    ensures { λ r. ⌜ (r ≡ applyAnswer count levels (now (valences .entry)) (now (rings .entry)) (now (positions .entry)) (now (map .entry)) (now (list .entry))) × (now (positions .exit) ≡ applyPositions count levels (now (valences .entry)) (now (rings .entry)) (now (positions .entry)) (now (map .entry)) (now (list .entry))) × (now (map .exit) ≡ applyMap count levels (now (valences .entry)) (now (rings .entry)) (now (positions .entry)) (now (map .entry)) (now (list .entry))) ⌝ }
+    ensures { λ r. ⌜ (r ≡ applyAnswer count levels (now (valences .entry)) (now (rings .entry)) (now (positions .entry)) (now (map .entry)) (now (list .entry)))
+        × (now (positions .exit) ≡ applyPositions count levels (now (valences .entry)) (now (rings .entry)) (now (positions .entry)) (now (map .entry)) (now (list .entry)))
+        × (now (map .exit) ≡ applyMap count levels (now (valences .entry)) (now (rings .entry)) (now (positions .entry)) (now (map .entry)) (now (list .entry))) ⌝ }
 {
     settle(
         walk(list, positions, opened(count)),

@@ -102,7 +102,9 @@ module _ (n : ℕ) (ps : List ℤ) (room : n * 3 ≤ length ps) (near : (v : ℕ
     -- a refused move
     refused-step : (e : s .verdict ≡ Accepted) (m : Move) (i : ℕ) (r : Refusal) → step n (pending (laid ps (planned s))) m i ≡ stopped r → Stepped s m i (refusedIn s r)
     unfolding refusedIn meaning
-    refused-step e m i r h = record { count = c; next = λ q. not-both (Refused r) r q refl; means = ap (λ (k : Verdict). step n (outcome k (laid ps (planned s))) m i) e ∙ h; names = λ q. not-both (Refused r) r q refl }
+    refused-step e m i r h =
+        record
+        { count = c; next = λ q. not-both (Refused r) r q refl; means = ap (λ (k : Verdict). step n (outcome k (laid ps (planned s))) m i) e ∙ h; names = λ q. not-both (Refused r) r q refl }
 
     -- an accepted one
     noted-step : (e : s .verdict ≡ Accepted) (m : Move) (i : ℕ) (p : Point) → s .taken ≡ i → i < 64 → step n (pending (laid ps (planned s))) m i ≡ settle (laid ps (planned s)) (m .vertex) i (At p) → Stepped s m i (notedIn s (m .vertex) p)

@@ -41,7 +41,9 @@ level-row M S k x = length-padded (level M (suc k) .ring x) (short-ring (level M
 
 pub ring-part : (vs rs : List ℕ) (b x : ℕ) → ringOf (drop b vs) (drop (b * 32) rs) x ≡ ringOf vs rs (b + x)
 unfolding ringOf
-ring-part vs rs b x = ap₂ (λ (n : ℕ) (r : List ℕ). take n r) (getD-drop b vs x 0) (drop-drop (x * 32) (b * 32) rs ∙ ap (λ (k : ℕ). drop k rs) (let e : b * 32 + x * 32 ≡ (b + x) * 32 = omega arith in e))
+ring-part vs rs b x =
+    ap₂ (λ (n : ℕ) (r : List ℕ). take n r) (getD-drop b vs x 0)
+    (drop-drop (x * 32) (b * 32) rs ∙ ap (λ (k : ℕ). drop k rs) (let e : b * 32 + x * 32 ≡ (b + x) * 32 = omega arith in e))
 
 pub point-part : (ps : List ℤ) (b axis x : ℕ) → coordinateAt (drop (b * 3) ps) axis x ≡ coordinateAt ps axis (b + x)
 unfolding coordinateAt

@@ -137,7 +137,9 @@ module _ {n levels : ℕ} {vs rs : List ℕ} {ps : List ℤ} (a : AcceptsStack n
           begins = start-more (r .sized) (r .begins);
           valences = T.valences-more n levels vs rs ps a k l base at-start count at-size vs′ (r .valences) vp (ev ∙ valences-told) ∙ ap (λ (j : ℕ). stackedValences n j vs rs) (sym (add-one k));
           rings = T.rings-more n levels vs rs ps a k l base at-start count at-size rs′ (r .rings) rp (er ∙ rings-told) ∙ ap (λ (j : ℕ). stackedRings n j vs rs) (sym (add-one k));
-          positions = T.positions-more n levels vs rs ps a k l base at-start count at-size ps′ (r .positions) pp (ep ∙ positions-told) ∙ ap (λ (j : ℕ). stackedPositions n j vs rs ps) (sym (add-one k));
+          positions =
+              T.positions-more n levels vs rs ps a k l base at-start count at-size ps′ (r .positions) pp (ep ∙ positions-told)
+              ∙ ap (λ (j : ℕ). stackedPositions n j vs rs ps) (sym (add-one k));
         }
 
   -- all levels are written

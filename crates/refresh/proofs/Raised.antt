@@ -370,7 +370,8 @@ module _ {n e levels : ℕ} {vs rs : List ℕ} {ps₀ : List ℤ} (R : StackRead
                 at = at-more;
                 behind = behind-more;
                 points = back
-                    ∙ L.stacked-more 3 row (λ j x. refl) size ps₀ k (room k (omega arith)) (room (suc k) l) ps (g .points ∙ P.positions-are n vs rs before ps₀ k (room k (omega arith))) (base * 3) (count * 3)
+                    ∙ L.stacked-more 3 row (λ j x. refl) size ps₀ k (room k (omega arith)) (room (suc k) l) ps
+                    (g .points ∙ P.positions-are n vs rs before ps₀ k (room k (omega arith))) (base * 3) (count * 3)
                     (ap (λ (i : ℕ). i * 3) a) (ap (λ (i : ℕ). i * 3) b) after part-is-new
                     ∙ sym (P.positions-are n vs rs before ps₀ (suc k) (room (suc k) l));
               })

@@ -42,7 +42,8 @@ module _ (n : ℕ) (vs rs : List ℕ) (v : ℕ) where
   unfolding eraseEdit erase
   erase-fair x = record {
     tables = λ h. called n vs rs v h .tables;
-    proper = λ h. let p = old-proper h in let s = p .short in let f = erase-part x (ringOf vs rs v) in part-proper n v (ringOf vs rs v) (erase x (ringOf vs rs v)) p (let k = f .0 in omega arith) (f .1);
+    proper =
+        λ h. let p = old-proper h in let s = p .short in let f = erase-part x (ringOf vs rs v) in part-proper n v (ringOf vs rs v) (erase x (ringOf vs rs v)) p (let k = f .0 in omega arith) (f .1);
     idle = λ q. rw q;
   }
 
@@ -58,7 +59,8 @@ module _ (n : ℕ) (vs rs : List ℕ) (v : ℕ) where
   unfolding replaceEdit replace
   replace-fair a x = record {
     tables = λ h. called n vs rs v (entered n vs rs v x h .call) .tables;
-    proper = λ h. let s = old-proper (entered n vs rs v x h .call) .short in let f = replace-more a x (ringOf vs rs v) in entry-proper x h (replace a x (ringOf vs rs v)) (let k = f .0 in omega arith) (f .1);
+    proper =
+        λ h. let s = old-proper (entered n vs rs v x h .call) .short in let f = replace-more a x (ringOf vs rs v) in entry-proper x h (replace a x (ringOf vs rs v)) (let k = f .0 in omega arith) (f .1);
     idle = λ q. rw q;
   }
 
@@ -74,7 +76,8 @@ module _ (n : ℕ) (vs rs : List ℕ) (v : ℕ) where
   unfolding insertAfterEdit insertAfter
   after-fair a x = record {
     tables = λ h. called n vs rs v (entered n vs rs v x (inserted a x h .0) .call) .tables;
-    proper = λ h. let i = inserted a x h in let m = old-most x (i .0) in let f = after-more a x (ringOf vs rs v) (getD vs v 0) (m .0) (m .1) (i .1) in entry-proper x (i .0) (insertAfter a x (ringOf vs rs v)) (f .0) (f .1);
+    proper =
+        λ h. let i = inserted a x h in let m = old-most x (i .0) in let f = after-more a x (ringOf vs rs v) (getD vs v 0) (m .0) (m .1) (i .1) in entry-proper x (i .0) (insertAfter a x (ringOf vs rs v)) (f .0) (f .1);
     idle = λ q. rw q;
   }
 
@@ -82,7 +85,8 @@ module _ (n : ℕ) (vs rs : List ℕ) (v : ℕ) where
   unfolding insertBeforeEdit insertBefore
   before-fair a x = record {
     tables = λ h. called n vs rs v (entered n vs rs v x (inserted a x h .0) .call) .tables;
-    proper = λ h. let i = inserted a x h in let m = old-most x (i .0) in let f = before-more a x (ringOf vs rs v) (getD vs v 0) (m .0) (m .1) (i .1) in entry-proper x (i .0) (insertBefore a x (ringOf vs rs v)) (f .0) (f .1);
+    proper =
+        λ h. let i = inserted a x h in let m = old-most x (i .0) in let f = before-more a x (ringOf vs rs v) (getD vs v 0) (m .0) (m .1) (i .1) in entry-proper x (i .0) (insertBefore a x (ringOf vs rs v)) (f .0) (f .1);
     idle = λ q. rw q;
   }
 

@@ -24,7 +24,8 @@ module _ {A : Type 0} (t : List A) (a : ℕ) (within : a ≤ length t) where
   unfolding put
   put-part b block =
       sym (append-assoc (take a t) (take b (drop a t)) (block ++ drop (b + length block) (drop a t)))
-      ∙ ap₂ (λ (x y : List A). x ++ (block ++ y)) (sym (take-add a b t)) (drop-drop (b + length block) a t ∙ ap (λ (k : ℕ). drop k t) (let e : a + (b + length block) ≡ a + b + length block = omega arith in e))
+      ∙ ap₂ (λ (x y : List A). x ++ (block ++ y)) (sym (take-add a b t))
+      (drop-drop (b + length block) a t ∙ ap (λ (k : ℕ). drop k t) (let e : a + (b + length block) ≡ a + b + length block = omega arith in e))
 
   nothing-behind : (part : List A) → part ++ drop (length t - a) (drop a t) ≡ part
   nothing-behind part = ap (λ (x : List A). part ++ x) (drop-of-length-le (drop a t) {i = length t - a} (omega (arith, length-drop a t))) ∙ append-nil part

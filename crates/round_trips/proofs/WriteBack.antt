@@ -106,7 +106,9 @@ module _ (s : List ℕ) (byte : (j : ℕ) → getD s j 0 < 256) (g : Good s) whe
       let low = row-low n (omega arith) in
       let head = join 4 4 (part-number s byte 4 0 2 (omega arith) (sym (record-length s 0 1 2 a)))
       (join 2 2 (part-number s byte 2 4 1 (omega arith) (sym (record-kind s 0 1 2 a))) (part-number s byte 2 6 n (omega arith) refl) refl) refl in
-      let last = join 4 2 (part-number s byte 4 at 0 (omega arith) (sym (record-length s at 3 0 (g .last)))) (part-number s byte 2 (at + 4) 3 (omega arith) (sym (record-kind s at 3 0 (g .last)))) refl in
+      let last =
+      join 4 2 (part-number s byte 4 at 0 (omega arith) (sym (record-length s at 3 0 (g .last))))
+      (part-number s byte 2 (at + 4) 3 (omega arith) (sym (record-kind s at 3 0 (g .last)))) refl in
       let rows = rows-part n (omega arith) (at - 8) (omega arith) in
       join 8 (at - 8 + 6) head (join (at - 8) 6 rows last (omega arith)) refl .is ∙ ap (λ (k : ℕ). take k s) (let e : 8 + (at - 8 + 6) ≡ length s = omega arith in e) ∙ take-length s
 
@@ -203,7 +205,8 @@ module _ (s vs rs : List ℕ) (ps : List ℤ) (a : readVerdict s vs rs ps ≡ Ac
           if-clear (badCount n) BadCount (refuseIf (shortTables n vs′ rs′ ps′) ControlTooShort (refuseAt (overMost vs′) n ImproperRing last)) (stages .1 .0)
           ∙ if-clear (shortTables n vs′ rs′ ps′) ControlTooShort (refuseAt (overMost vs′) n ImproperRing last) still-long
           ∙ at-clear (overMost vs′) n ImproperRing last (λ v l. le-ltb 32 (getD vs′ v 0) (let e = valence-read v l in let m = most v l in omega arith))
-          ∙ if-clear (ltb (length room) (length (fileOf n (ringOf vs′ rs′) (coordinateAt ps′)))) NoRoom Accepted (le-ltb (length room) (length (fileOf n (ringOf vs′ rs′) (coordinateAt ps′))) (rw written-same fits))
+          ∙ if-clear (ltb (length room) (length (fileOf n (ringOf vs′ rs′) (coordinateAt ps′)))) NoRoom Accepted
+          (le-ltb (length room) (length (fileOf n (ringOf vs′ rs′) (coordinateAt ps′))) (rw written-same fits))
 
       answer-again : (writeAnswer n vs′ rs′ ps′ room ≡ Of (length s)) × (writeRoom n vs′ rs′ ps′ room ≡ put room 0 s)
       unfolding writeAnswer writeRoom withAmount after

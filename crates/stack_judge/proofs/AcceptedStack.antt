@@ -45,6 +45,7 @@ module _ (n levels : ℕ) (vs rs : List ℕ) (ps : List ℤ) where
   stack-all a =
       let m : ℕ = stackCount n (edges (rows n vs rs)) levels in
       if-clear _ _ _ (or-both _ _ (le-ltb levels 1 (a .low)) (le-ltb 4 levels (a .high)))
-      ∙ ap (λ (w : Verdict). andThen w (refuseAt (tooLarge n (edges (rows n vs rs))) (suc levels) LevelTooLarge (refuseIf (shortStack m vs rs ps) NoRoom Accepted))) (accepted-all n vs rs ps (a .control))
+      ∙ ap (λ (w : Verdict). andThen w (refuseAt (tooLarge n (edges (rows n vs rs))) (suc levels) LevelTooLarge (refuseIf (shortStack m vs rs ps) NoRoom Accepted)))
+      (accepted-all n vs rs ps (a .control))
       ∙ at-clear _ (suc levels) _ _ (λ k l. le-ltb 65535 (levelCount n (edges (rows n vs rs)) k) (a .fits k (omega arith)))
       ∙ if-clear _ _ _ (or-both _ _ (le-ltb (length vs) m (a .room .valences)) (or-both _ _ (le-ltb (length rs) (m * 32) (a .room .rings)) (le-ltb (length ps) (m * 3) (a .points))))

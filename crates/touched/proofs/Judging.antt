@@ -43,7 +43,9 @@ ring-none = record { member = λ i l. absurd (omega arith); more = λ j h. h; el
 
 pub ring-more : {ring : List ℕ} {k start : ℕ} {before after : ℕ → Bool} → RingMarked ring k start before after → {now : ℕ → Bool} → now ≡ including after (start + getD ring k 0) → RingMarked ring (k + 1) start before now
 ring-more {ring} {k} {start} {before} {after} d {now} e = rw e (record {
-  member = below-more (λ (i : ℕ). including after (start + getD ring k 0) (start + getD ring i 0) ≡ true) k (λ i l. including-more after (start + getD ring k 0) (start + getD ring i 0) (d .member i l)) (including-here after (start + getD ring k 0));
+  member =
+      below-more (λ (i : ℕ). including after (start + getD ring k 0) (start + getD ring i 0) ≡ true) k
+      (λ i l. including-more after (start + getD ring k 0) (start + getD ring i 0) (d .member i l)) (including-here after (start + getD ring k 0));
   more = λ j h. including-more after (start + getD ring k 0) j (d .more j h);
   else = λ j h. including-else after (start + getD ring k 0) j (h k (omega arith)) ∙ d .else j (λ i l. h i (omega arith));
 })
@@ -134,7 +136,9 @@ module _ {n : ℕ} {vs rs : List ℕ} (r : Ready n vs rs) where
                   (has-split v (M .ring t)))
                   (eq-split v t);
               self = below-more (λ (u : ℕ). before (base + u) ≡ true → now (base + n + u) ≡ true) t (λ u l e. w .more (base + n + u) (d .self u l e)) (λ e. w .self);
-              ring = below-more (λ (u : ℕ). before (base + u) ≡ true → (v : ℕ) → v ∈ M .ring u → now (base + n + v) ≡ true) t (λ u l e v k. w .more (base + n + v) (d .ring u l e v k)) (λ e v k. w .ring v k);
+              ring =
+                  below-more (λ (u : ℕ). before (base + u) ≡ true → (v : ℕ) → v ∈ M .ring u → now (base + n + v) ≡ true) t
+                  (λ u l e v k. w .more (base + n + v) (d .ring u l e v k)) (λ e v k. w .ring v k);
               front = λ j l. w .else j (λ a. omega arith) (λ u k a. omega arith) ∙ d .front j l;
               behind = λ j l. w .else j (λ a. omega arith) (λ u k a. let g = edge-lt M (r .sound) t u h k in omega arith) ∙ d .behind j l;
             }

@@ -47,7 +47,10 @@ same-length-3 : tie.Need-same-length-3
 same-length-3 c = search needs
 
 returns-2 : tie.Need-returns-2
-returns-2 c = read-short _ _ _ _ (fine (c .before .before .before .before .before .before .before .before)) _ (c .before .before .before .before .before .before .before .two-at .ensures .0) (c .before .before .before .before .before .before .is-bad-count .ensures) (c .before .before .before .before .before .if1 .left) (c .before .is-short .ensures) (c .if2 .taken)
+returns-2 c =
+    read-short _ _ _ _ (fine (c .before .before .before .before .before .before .before .before)) _
+    (c .before .before .before .before .before .before .before .two-at .ensures .0) (c .before .before .before .before .before .before .is-bad-count .ensures)
+    (c .before .before .before .before .before .if1 .left) (c .before .is-short .ensures) (c .if2 .taken)
 
 read-rows-requires : tie.Need-read-rows-requires
 unfolding fileCount

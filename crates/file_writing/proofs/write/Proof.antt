@@ -9,7 +9,10 @@ use Rattle.file_writing.proofs.write.Statement.{statement}
 use Rattle.file_writing.proofs.write.Tie as tie
 
 held : (c : tie.Else3) → let a = c .before .before .before .before .before .before .before .before .before .args in Stored (a .count) (a .valences .now) (a .rings .now) (a .positions .now)
-held c = stored _ _ _ _ (c .before .before .before .before .before .before .before .before .before .args .file .now) (c .before .before .before .before .before .is-bad-count .ensures) (c .before .before .before .before .if1 .left) (c .before .before .before .is-short .ensures) (c .before .before .if2 .left) _ (c .before .first-over .ensures) (c .if3 .left)
+held c =
+    stored _ _ _ _ (c .before .before .before .before .before .before .before .before .before .args .file .now)
+    (c .before .before .before .before .before .is-bad-count .ensures) (c .before .before .before .before .if1 .left) (c .before .before .before .is-short .ensures)
+    (c .before .before .if2 .left) _ (c .before .first-over .ensures) (c .if3 .left)
 
 is-bad-count-requires : tie.Need-is-bad-count-requires
 is-bad-count-requires c κs = search needs
@@ -27,7 +30,9 @@ first-over-requires : tie.Need-first-over-requires
 first-over-requires c κs = long-tables _ _ _ _ (sym (c .before .is-short .ensures) ∙ c .if2 .left) .0 .valences
 
 returns-3 : tie.Need-returns-3
-returns-3 c = write-over _ _ _ _ _ (c .before .before .before .before .before .is-bad-count .ensures) (c .before .before .before .before .if1 .left) (c .before .before .before .is-short .ensures) (c .before .before .if2 .left) _ (c .before .first-over .ensures) (c .if3 .taken)
+returns-3 c =
+    write-over _ _ _ _ _ (c .before .before .before .before .before .is-bad-count .ensures) (c .before .before .before .before .if1 .left)
+    (c .before .before .before .is-short .ensures) (c .before .before .if2 .left) _ (c .before .first-over .ensures) (c .if3 .taken)
 
 rows-length-requires : tie.Need-rows-length-requires
 rows-length-requires c κs = (held c .room .valences, told-most _ _ (c .before .before .before .before .before .is-bad-count .ensures) (c .before .before .before .before .if1 .left))
@@ -36,7 +41,10 @@ add-size : tie.Need-add-size
 add-size c = search needs
 
 returns-4 : tie.Need-returns-4
-returns-4 c = write-full _ _ _ _ _ (c .before .before .before .before .before .before .before .is-bad-count .ensures) (c .before .before .before .before .before .before .if1 .left) (c .before .before .before .before .before .is-short .ensures) (c .before .before .before .before .if2 .left) _ (c .before .before .before .first-over .ensures) (c .before .before .if3 .left) _ (c .before .rows-length .ensures .0) (c .if4 .taken)
+returns-4 c =
+    write-full _ _ _ _ _ (c .before .before .before .before .before .before .before .is-bad-count .ensures) (c .before .before .before .before .before .before .if1 .left)
+    (c .before .before .before .before .before .is-short .ensures) (c .before .before .before .before .if2 .left) _ (c .before .before .before .first-over .ensures)
+    (c .before .before .if3 .left) _ (c .before .rows-length .ensures .0) (c .if4 .taken)
 
 put-head-requires : tie.Need-put-head-requires
 put-head-requires c κs = search needs
@@ -70,7 +78,12 @@ same-length c = search needs
 
 returns-5 : tie.Need-returns-5
 returns-5 c =
-    let w = file-put (held (c .before .before .before .before .before .before .before .before .before .before .before .before .before .before .before .before .before .before)) (c .before .before .before .before .before .before .before .before .before .before .before .before .before .before .put-head .ensures) (c .before .before .before .before .before .before .before .before .before .before .put-two .ensures) (c .before .before .before .before .before .before .put-rows .ensures .0) (c .before .before .put-head2 .ensures) (c .before .before .before .before .before .before .put-rows .ensures .1) in
+    let w =
+    file-put (held (c .before .before .before .before .before .before .before .before .before .before .before .before .before .before .before .before .before .before))
+    (c .before .before .before .before .before .before .before .before .before .before .before .before .before .before .put-head .ensures)
+    (c .before .before .before .before .before .before .before .before .before .before .put-two .ensures)
+    (c .before .before .before .before .before .before .put-rows .ensures .0) (c .before .before .put-head2 .ensures)
+    (c .before .before .before .before .before .before .put-rows .ensures .1) in
     write-done _ _ _ _ _ (c .before .before .before .before .before .before .before .before .before .before .before .before .before .before .before .before .before .before .before .before .before .before .before .is-bad-count .ensures) (c .before .before .before .before .before .before .before .before .before .before .before .before .before .before .before .before .before .before .before .before .before .before .if1 .left) (c .before .before .before .before .before .before .before .before .before .before .before .before .before .before .before .before .before .before .before .before .before .is-short .ensures) (c .before .before .before .before .before .before .before .before .before .before .before .before .before .before .before .before .before .before .before .before .if2 .left) _ (c .before .before .before .before .before .before .before .before .before .before .before .before .before .before .before .before .before .before .before .first-over .ensures) (c .before .before .before .before .before .before .before .before .before .before .before .before .before .before .before .before .before .before .if3 .left) _ (c .before .before .before .before .before .before .before .before .before .before .before .before .before .before .before .before .before .rows-length .ensures .0) (c .before .before .before .before .before .before .before .before .before .before .before .before .before .before .before .before .if4 .left) w
 
 pub write-spec : {M : Type 1} → statement M

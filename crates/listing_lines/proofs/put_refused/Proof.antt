@@ -26,7 +26,11 @@ same-length : tie.Need-same-length
 same-length c = search needs
 
 returns : tie.Need-returns
-returns c = refused-wrote (c .before .before .before .before .before .before .before .before .before .before .before .before .before .before .before .args .refusal) (c .before .before .before .before .before .before .before .before .before .before .before .before .put-word .ensures) (c .before .before .before .before .before .before .before .before .number .ensures) (c .before .before .before .before .before .before .before .put-number .ensures) (c .before .before .before .place .ensures) (c .before .before .put-number2 .ensures)
+returns c =
+    refused-wrote (c .before .before .before .before .before .before .before .before .before .before .before .before .before .before .before .args .refusal)
+    (c .before .before .before .before .before .before .before .before .before .before .before .before .put-word .ensures)
+    (c .before .before .before .before .before .before .before .before .number .ensures) (c .before .before .before .before .before .before .before .put-number .ensures)
+    (c .before .before .before .place .ensures) (c .before .before .put-number2 .ensures)
 
 pub put-refused-spec : {M : Type 1} → statement M
 put-refused-spec =

@@ -12,7 +12,9 @@ same-length : tie.Need-same-length
 same-length c = search needs
 
 returns : tie.Need-returns
-returns c = let s = c .before .before .before .before .before .before .before .args .input .now in whole-text _ (c .before .before .put-refused .ensures) (omega arith) (listing-long s (c .before .before .before .before .if1 .taken))
+returns c =
+    let s = c .before .before .before .before .before .before .before .args .input .now in
+    whole-text _ (c .before .before .put-refused .ensures) (omega arith) (listing-long s (c .before .before .before .before .if1 .taken))
 
 slice-aggregate-put-read : tie.Need-slice-aggregate-put-read
 slice-aggregate-put-read c = search needs
@@ -30,7 +32,10 @@ same-length-2 : tie.Need-same-length-2
 same-length-2 c = search needs
 
 returns-2 : tie.Need-returns-2
-returns-2 c = let s = c .before .before .before .before .before .before .before .before .before .before .before .before .before .args .input .now in whole-text _ (c .before .before .before .before .before .put-read .ensures) (omega arith) (listing-read s (c .before .before .before .before .before .before .before .before .before .before .if1 .left))
+returns-2 c =
+    let s = c .before .before .before .before .before .before .before .before .before .before .before .before .before .args .input .now in
+    whole-text _ (c .before .before .before .before .before .put-read .ensures) (omega arith)
+    (listing-read s (c .before .before .before .before .before .before .before .before .before .before .if1 .left))
 
 pub listing-spec : {M : Type 1} → statement M
 listing-spec =

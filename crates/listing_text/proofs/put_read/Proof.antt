@@ -34,7 +34,10 @@ same-length-4 : tie.Need-same-length-4
 same-length-4 c = search needs
 
 returns : tie.Need-returns
-returns c = wrote-is (read-refused _ _ _ _ (c .before .before .before .before .before .r .given .1) (c .before .before .before .before .before .before .before .before .before .before .before .before .read .ensures .0)) (wrote-wide 32768 (omega arith) (c .before .before .put-refused .ensures))
+returns c =
+    wrote-is
+    (read-refused _ _ _ _ (c .before .before .before .before .before .r .given .1) (c .before .before .before .before .before .before .before .before .before .before .before .before .read .ensures .0))
+    (wrote-wide 32768 (omega arith) (c .before .before .put-refused .ensures))
 
 same-length-5 : tie.Need-same-length-5
 same-length-5 c = search needs

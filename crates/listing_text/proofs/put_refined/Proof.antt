@@ -23,7 +23,9 @@ put-level-requires : tie.Need-put-level-requires
 put-level-requires c κs =
     let s = c .before .before .before .before .before .before .before .before .before .before .before .before .before .before .before .before .before .before in
     let a = s .args in
-    let h = level-fits (a .count) (a .valences .now) (a .rings .now) (a .positions .now) _ _ _ (sym (c .before .before .before .before .v .given .1) ∙ c .before .before .before .before .before .before .before .before .before .before .before .refine .ensures .0) in
+    let h =
+    level-fits (a .count) (a .valences .now) (a .rings .now) (a .positions .now) _ _ _
+    (sym (c .before .before .before .before .v .given .1) ∙ c .before .before .before .before .before .before .before .before .before .before .before .refine .ensures .0) in
     let k = c .before .before .before .before .before .before .before .before .before .before .before .refine .kept in
     (omega arith, (omega arith, omega arith))
 
@@ -40,7 +42,10 @@ same-length-4 : tie.Need-same-length-4
 same-length-4 c = search needs
 
 returns : tie.Need-returns
-returns c = wrote-is (level-refused _ _ _ (c .before .before .before .before .before .r .given .1) (c .before .before .before .before .before .before .before .before .before .before .before .before .refine .ensures .0)) (wrote-wide 32768 (omega arith) (c .before .before .put-refused .ensures))
+returns c =
+    wrote-is
+    (level-refused _ _ _ (c .before .before .before .before .before .r .given .1) (c .before .before .before .before .before .before .before .before .before .before .before .before .refine .ensures .0))
+    (wrote-wide 32768 (omega arith) (c .before .before .put-refused .ensures))
 
 same-length-5 : tie.Need-same-length-5
 same-length-5 c = search needs

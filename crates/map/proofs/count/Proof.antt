@@ -32,7 +32,9 @@ cast-sum : tie.Need-cast-sum Inv-loop μ-loop
 cast-sum c = omega (arith, ones-le 32 _ (c .shared-slice-known2 .given (c .before .before .loop .w) .fits))
 
 add-sum : tie.Need-add-sum Inv-loop μ-loop
-add-sum c = omega (arith, ones-le 32 _ (c .shared-slice-known2 .given (c .before .before .loop .w) .fits), members-le (marked (c .before .before .before .before .before .args .map .now)) (c .before .before .loop .w * 32))
+add-sum c =
+    omega
+    (arith, ones-le 32 _ (c .shared-slice-known2 .given (c .before .before .loop .w) .fits), members-le (marked (c .before .before .before .before .before .args .map .now)) (c .before .before .loop .w * 32))
 
 add-w : tie.Need-add-w Inv-loop μ-loop
 add-w c = search needs

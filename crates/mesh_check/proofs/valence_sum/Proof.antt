@@ -44,7 +44,9 @@ loop-again : tie.Need-loop-again Inv-loop μ-loop
 loop-again c = (search needs, more (c .before .before .before .args .valences .now) _ _ (c .before .before .loop .inv .1), omega (arith, c .shared-slice-known .given (c .before .before .loop .v)))
 
 returns : tie.Need-returns Inv-loop μ-loop
-returns c = let e : c .before .loop .v ≡ c .before .before .args .count = omega arith in (c .before .loop .inv .1 ∙ ap (λ (n : ℕ). sum (λ i. getD (c .before .before .args .valences .now) i 0) n) e, omega arith)
+returns c =
+    let e : c .before .loop .v ≡ c .before .before .args .count = omega arith in
+    (c .before .loop .inv .1 ∙ ap (λ (n : ℕ). sum (λ i. getD (c .before .before .args .valences .now) i 0) n) e, omega arith)
 
 pub valence-sum-spec : {M : Type 1} → statement M
 valence-sum-spec =

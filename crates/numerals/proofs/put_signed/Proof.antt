@@ -12,7 +12,9 @@ same-length : tie.Need-same-length
 same-length c = search needs
 
 returns : tie.Need-returns
-returns c = let a = c .before .before .before .before .before .before .args in wrote-is (signed-low (a .bits) (a .last) (c .before .before .before .before .if1 .taken)) (wrote-wide 22 (omega arith) (c .before .before .put-number .ensures))
+returns c =
+    let a = c .before .before .before .before .before .before .args in
+    wrote-is (signed-low (a .bits) (a .last) (c .before .before .before .before .if1 .taken)) (wrote-wide 22 (omega arith) (c .before .before .put-number .ensures))
 
 put-byte-requires : tie.Need-put-byte-requires
 put-byte-requires c κs = search needs

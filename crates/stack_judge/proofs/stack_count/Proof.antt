@@ -18,7 +18,10 @@ loop-holds : tie.Need-loop-holds Inv-loop μ-loop
 loop-holds c = (search needs, (sized-none, sym (start-none _ _)))
 
 add-total : tie.Need-add-total Inv-loop μ-loop
-add-total c = let i = c .before .loop .inv .1 in let h = sized-small (i .0) (omega arith) in let t = start-small (c .before .before .args .count) (c .before .before .args .edges) (c .before .loop .k) (omega arith) in omega arith
+add-total c =
+    let i = c .before .loop .inv .1 in
+    let h = sized-small (i .0) (omega arith) in
+    let t = start-small (c .before .before .args .count) (c .before .before .args .edges) (c .before .loop .k) (omega arith) in omega arith
 
 add-n : tie.Need-add-n Inv-loop μ-loop
 add-n c = let h = sized-small (c .before .loop .inv .1 .0) (omega arith) in omega arith

@@ -33,7 +33,8 @@ names-edge-requires : tie.Need-names-edge-requires
 names-edge-requires c κs = search needs
 
 returns-3 : tie.Need-returns-3
-returns-3 c = λ e. record { low = c .before .before .before .if1 .left; high = c .before .before .if2 .left; names = names-part (c .before .before .before .before .before .args .above .now) (c .before .before .before .before .before .args .x * 32) (c .names-edge .ensures e) }
+returns-3 c =
+    λ e. record { low = c .before .before .before .if1 .left; high = c .before .before .if2 .left; names = names-part (c .before .before .before .before .before .args .above .now) (c .before .before .before .before .before .args .x * 32) (c .names-edge .ensures e) }
 
 pub is-edge-vertex-spec : {M : Type 1} → statement M
 is-edge-vertex-spec =

@@ -56,7 +56,11 @@ loop-less : tie.Need-loop-less Inv-loop μ-loop
 loop-less c = search needs
 
 loop-again : tie.Need-loop-again Inv-loop μ-loop
-loop-again c = (omega arith, walked-more (c .before .before .before .before .before .loop .inv .1) (c .before .before .before .before .loop-test .taken) (c .before .is-edge-vertex .ensures (not-false _ (c .if1 .left))))
+loop-again c = (
+  omega arith,
+  walked-more (c .before .before .before .before .before .loop .inv .1) (c .before .before .before .before .loop-test .taken)
+      (c .before .is-edge-vertex .ensures (not-false _ (c .if1 .left))),
+)
 
 mul-is-edge-vertex-2 : tie.Need-mul-is-edge-vertex-2 Inv-loop μ-loop
 mul-is-edge-vertex-2 c = search needs
@@ -71,7 +75,8 @@ is-edge-vertex-requires-2 : tie.Need-is-edge-vertex-requires-2 Inv-loop μ-loop
 is-edge-vertex-requires-2 c κs = search needs
 
 returns-2 : tie.Need-returns-2 Inv-loop μ-loop
-returns-2 c = λ e. walked-all (c .before .before .before .before .loop .inv .1) (c .before .before .before .before .before .before .before .before .before .before .pre .1 .1 .0) (omega arith) (c .is-edge-vertex2 .ensures e)
+returns-2 c =
+    λ e. walked-all (c .before .before .before .before .loop .inv .1) (c .before .before .before .before .before .before .before .before .before .before .pre .1 .1 .0) (omega arith) (c .is-edge-vertex2 .ensures e)
 
 pub row-agrees-spec : {M : Type 1} → statement M
 row-agrees-spec =

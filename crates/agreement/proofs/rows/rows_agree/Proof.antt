@@ -44,7 +44,10 @@ cast-any-row-agrees : tie.Need-cast-any-row-agrees Inv-loop μ-loop
 cast-any-row-agrees c = search needs
 
 any-row-agrees-requires : tie.Need-any-row-agrees-requires Inv-loop μ-loop
-any-row-agrees-requires c κs = row-asks (c .before .before .before .before .before .before .before .pre .0) (c .before .before .loop-test .taken) (c .before .before .before .before .before .before .before .pre .1) (c .before .ring-of .result .now) (c .ring-of2 .result .now) (c .before .ring-of .ensures .1) (c .ring-of2 .ensures .1)
+any-row-agrees-requires c κs =
+    row-asks (c .before .before .before .before .before .before .before .pre .0) (c .before .before .loop-test .taken)
+    (c .before .before .before .before .before .before .before .pre .1) (c .before .ring-of .result .now) (c .ring-of2 .result .now) (c .before .ring-of .ensures .1)
+    (c .ring-of2 .ensures .1)
 
 returns : tie.Need-returns Inv-loop μ-loop
 returns c = no-tells
@@ -56,7 +59,11 @@ loop-less : tie.Need-loop-less Inv-loop μ-loop
 loop-less c = search needs
 
 loop-again : tie.Need-loop-again Inv-loop μ-loop
-loop-again c = (omega arith, rows-more (c .before .before .before .before .before .before .before .before .before .pre .0) (c .before .before .before .before .before .loop .inv .1) (c .before .before .before .ring-of .ensures .0) (c .before .before .ring-of2 .ensures .0) (c .before .any-row-agrees .ensures (not-false _ (c .if1 .left))))
+loop-again c = (
+  omega arith,
+  rows-more (c .before .before .before .before .before .before .before .before .before .pre .0) (c .before .before .before .before .before .loop .inv .1)
+      (c .before .before .before .ring-of .ensures .0) (c .before .before .ring-of2 .ensures .0) (c .before .any-row-agrees .ensures (not-false _ (c .if1 .left))),
+)
 
 returns-2 : tie.Need-returns-2 Inv-loop μ-loop
 returns-2 c = λ e. record { row = λ p l. c .before .loop .inv .1 .row p (omega arith) }

@@ -51,7 +51,9 @@ add-falls : tie.Need-add-falls Inv-loop μ-loop
 add-falls c = let f = c .before .before .before .before .loop .inv .1 .few in omega arith
 
 add-least : tie.Need-add-least Inv-loop μ-loop
-add-least c = omega (arith, c .before .before .shared-slice-known .given (c .before .before .before .before .loop .x * 32), c .before .shared-slice-known2 .given (c .before .before .before .before .loop .x * 32 + 3))
+add-least c =
+    omega
+    (arith, c .before .before .shared-slice-known .given (c .before .before .before .before .loop .x * 32), c .before .shared-slice-known2 .given (c .before .before .before .before .loop .x * 32 + 3))
 
 add-x : tie.Need-add-x Inv-loop μ-loop
 add-x c = omega arith

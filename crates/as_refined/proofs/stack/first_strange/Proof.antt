@@ -58,35 +58,53 @@ part-first-strange-level-end-3 : tie.Need-part-first-strange-level-end-3 Inv-loo
 part-first-strange-level-end-3 c = omega (arith, reached-room _ _ _ _ _ (stack-only _ _ _ _ _ (c .before .before .before .before .before .before .pre .0)) (c .before .before .before .loop .inv))
 
 add-first-strange-level : tie.Need-add-first-strange-level Inv-loop μ-loop
-add-first-strange-level c = omega (arith, reached-small _ _ _ _ _ (stack-only _ _ _ _ _ (c .before .before .before .before .before .before .before .pre .0)) (c .before .before .before .before .loop .inv))
+add-first-strange-level c =
+    omega
+    (arith, reached-small _ _ _ _ _ (stack-only _ _ _ _ _ (c .before .before .before .before .before .before .before .pre .0)) (c .before .before .before .before .loop .inv))
 
 first-strange-level-requires : tie.Need-first-strange-level-requires Inv-loop μ-loop
-first-strange-level-requires c κs = reached-asks _ _ _ _ _ (stack-only _ _ _ _ _ (c .before .before .before .before .before .before .before .pre .0)) (c .before .before .before .before .loop .inv) (c .before .before .before .loop-test .taken)
+first-strange-level-requires c κs =
+    reached-asks _ _ _ _ _ (stack-only _ _ _ _ _ (c .before .before .before .before .before .before .before .pre .0)) (c .before .before .before .before .loop .inv)
+    (c .before .before .before .loop-test .taken)
 
 add-if1 : tie.Need-add-if1 Inv-loop μ-loop
-add-if1 c = omega (arith, reached-small _ _ _ _ _ (stack-only _ _ _ _ _ (c .before .before .before .before .before .before .before .before .pre .0)) (c .before .before .before .before .before .loop .inv))
+add-if1 c =
+    omega
+    (arith, reached-small _ _ _ _ _ (stack-only _ _ _ _ _ (c .before .before .before .before .before .before .before .before .pre .0)) (c .before .before .before .before .before .loop .inv))
 
 add-result : tie.Need-add-result Inv-loop μ-loop
-add-result c = omega (arith, reached-small _ _ _ _ _ (stack-only _ _ _ _ _ (c .before .before .before .before .before .before .before .before .before .pre .0)) (c .before .before .before .before .before .before .loop .inv))
+add-result c =
+    omega
+    (arith, reached-small _ _ _ _ _ (stack-only _ _ _ _ _ (c .before .before .before .before .before .before .before .before .before .pre .0)) (c .before .before .before .before .before .before .loop .inv))
 
 add-result-2 : tie.Need-add-result-2 Inv-loop μ-loop
-add-result-2 c = omega (arith, reached-small _ _ _ _ _ (stack-only _ _ _ _ _ (c .before .before .before .before .before .before .before .before .before .pre .0)) (c .before .before .before .before .before .before .loop .inv))
+add-result-2 c =
+    omega
+    (arith, reached-small _ _ _ _ _ (stack-only _ _ _ _ _ (c .before .before .before .before .before .before .before .before .before .pre .0)) (c .before .before .before .before .before .before .loop .inv))
 
 returns : tie.Need-returns Inv-loop μ-loop
 returns c =
     reached-strange _ _ _ _ _ (stack-only _ _ _ _ _ (c .before .before .before .before .before .before .before .before .before .pre .0)) (c .before .before .before .before .before .before .loop .inv) (c .before .before .before .before .before .loop-test .taken) _ (c .before .first-strange-level .ensures) (c .if1 .taken)
 
 add-base : tie.Need-add-base Inv-loop μ-loop
-add-base c = omega (arith, reached-small _ _ _ _ _ (stack-only _ _ _ _ _ (c .before .before .before .before .before .before .before .before .before .pre .0)) (c .before .before .before .before .before .before .loop .inv))
+add-base c =
+    omega
+    (arith, reached-small _ _ _ _ _ (stack-only _ _ _ _ _ (c .before .before .before .before .before .before .before .before .before .pre .0)) (c .before .before .before .before .before .before .loop .inv))
 
 add-n : tie.Need-add-n Inv-loop μ-loop
-add-n c = omega (arith, reached-small _ _ _ _ _ (stack-only _ _ _ _ _ (c .before .before .before .before .before .before .before .before .before .pre .0)) (c .before .before .before .before .before .before .loop .inv))
+add-n c =
+    omega
+    (arith, reached-small _ _ _ _ _ (stack-only _ _ _ _ _ (c .before .before .before .before .before .before .before .before .before .pre .0)) (c .before .before .before .before .before .before .loop .inv))
 
 mul-e : tie.Need-mul-e Inv-loop μ-loop
-mul-e c = omega (arith, reached-small _ _ _ _ _ (stack-only _ _ _ _ _ (c .before .before .before .before .before .before .before .before .before .pre .0)) (c .before .before .before .before .before .before .loop .inv))
+mul-e c =
+    omega
+    (arith, reached-small _ _ _ _ _ (stack-only _ _ _ _ _ (c .before .before .before .before .before .before .before .before .before .pre .0)) (c .before .before .before .before .before .before .loop .inv))
 
 add-k : tie.Need-add-k Inv-loop μ-loop
-add-k c = let s = stack-only _ _ _ _ _ (c .before .before .before .before .before .before .before .before .before .pre .0) in let l = c .before .before .before .before .before .loop-test .taken in omega (arith, s .high)
+add-k c =
+    let s = stack-only _ _ _ _ _ (c .before .before .before .before .before .before .before .before .before .pre .0) in
+    let l = c .before .before .before .before .before .loop-test .taken in omega (arith, s .high)
 
 loop-less : tie.Need-loop-less Inv-loop μ-loop
 loop-less c = omega arith

@@ -22,7 +22,9 @@ returns : tie.Need-returns
 returns c = ap paperCounted (sym (c .before .answer .given .1))
 
 returns-2 : tie.Need-returns-2
-returns-2 c = through paperCounted (as-refused (c .before .before .before .answer2 .given .0 .0) 0 (c .before .number .ensures) (c .place .ensures)) (sym (c .before .before .before .answer2 .given .1))
+returns-2 c =
+    through paperCounted (as-refused (c .before .before .before .answer2 .given .0 .0) 0 (c .before .number .ensures) (c .place .ensures))
+    (sym (c .before .before .before .answer2 .given .1))
 
 pub of-counted-spec : {M : Type 1} → statement M
 of-counted-spec =

@@ -294,7 +294,9 @@ module _ {M : Type 1} (𝓤 : URA M) (H : Heap 𝓤) (A : Atoms 𝓤) (W : Given
       (λ κs qs bounds a g are. via 𝓤 _ (fst∗ 𝓤 _ (emp 𝓤)) (walk 𝓤 H A W mem run (κs .0) (κs .1 .0) (qs .0) (qs .1 .0) (a .0) (a .1 .0) (a .1 .1 .0) _ (are .0 .0 .1) (are .1 .0 .0 .1) (are .1 .1 .0) 𝓣 known))
 
   meets : Meets 𝓤 H A f.signature (WpFn 𝓤 H (𝓣 .C) (𝓣 .Λ) code.function) (f.spec 𝓤 H A mem run)
-  meets = walk-meets 𝓤 H A f.ended stayed W (goes-none-slice 𝓤 H A W 2 (0 ∷ []) tt (plain (λ _. T.the-row)) yes, (goes-none-slice 𝓤 H A W 2 (1 ∷ []) tt (plain (λ _. i32)) yes, (goes-none 𝓤 H A W 2 (λ _. S.the-row) yes (λ κs x f. refl), tt)))
+  meets =
+      walk-meets 𝓤 H A f.ended stayed W
+      (goes-none-slice 𝓤 H A W 2 (0 ∷ []) tt (plain (λ _. T.the-row)) yes, (goes-none-slice 𝓤 H A W 2 (1 ∷ []) tt (plain (λ _. i32)) yes, (goes-none 𝓤 H A W 2 (λ _. S.the-row) yes (λ κs x f. refl), tt)))
       (f.clauses 𝓤 H A mem run) (WpFn 𝓤 H (𝓣 .C) (𝓣 .Λ) code.function) (WpFn-mono 𝓤 H (W .laws) 𝓣 code.function) walks
 
 pub walk-records-spec : {M : Type 1} → stated.statement M

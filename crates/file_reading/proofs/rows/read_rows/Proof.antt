@@ -55,7 +55,10 @@ read-ring-requires : tie.Need-read-ring-requires Inv-loop μ-loop
 read-ring-requires c κs = let i = c .before .before .before .loop .inv .1 in let h = c .before .before .before .before .before .before .before .before .pre .1 .1 .0 in (here (c .before), omega arith)
 
 read-point-requires : tie.Need-read-point-requires Inv-loop μ-loop
-read-point-requires c κs = let i = c .before .before .before .before .before .before .before .loop .inv .1 in let h = c .before .before .before .before .before .before .before .before .before .before .before .before .pre .1 .1 .1 in (i .here, (fits (c .before .before .before .before .before .before), omega arith))
+read-point-requires c κs =
+    let i = c .before .before .before .before .before .before .before .loop .inv .1 in
+    let h = c .before .before .before .before .before .before .before .before .before .before .before .before .pre .1 .1 .1 in
+    (i .here, (fits (c .before .before .before .before .before .before), omega arith))
 
 -- the next row begins behind this one
 next : (c : tie.After-positions Inv-loop μ-loop) → let at = c .before .before .before .before .before .before .before .before .before .loop .at in

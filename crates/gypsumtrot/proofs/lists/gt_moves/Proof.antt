@@ -168,7 +168,8 @@ module _ {M : Type 1} (𝓤 : URA M) (H : Heap 𝓤) (A : Atoms 𝓤) (W : Given
 
   -- what `settle_records` says of its result and the last lists, of a plan
   abbrev Said : Plan → ValueAnswer → List ℤ → List ℕ → Type 0
-  Said s r zp zm = (valuePaper r ≡ paperAmount (settleAnswer s count levels (now xv) (now xr) ps (now xm))) × (zp ≡ settlePositions s count levels (now xv) (now xr) ps (now xm)) × (zm ≡ settleMap s count levels (now xv) (now xr) ps (now xm))
+  Said s r zp zm =
+      (valuePaper r ≡ paperAmount (settleAnswer s count levels (now xv) (now xr) ps (now xm))) × (zp ≡ settlePositions s count levels (now xv) (now xr) ps (now xm)) × (zm ≡ settleMap s count levels (now xv) (now xr) ps (now xm))
 
   -- the list's plan
   abbrev listed : Plan
@@ -176,7 +177,8 @@ module _ {M : Type 1} (𝓤 : URA M) (H : Heap 𝓤) (A : Atoms 𝓤) (W : Given
 
   -- what the call says of its result and the last lists
   abbrev Applied : ValueAnswer → List ℤ → List ℕ → Type 0
-  Applied r zp zm = (valuePaper r ≡ recordsAnswer n levels (now xv) (now xr) ps (now xm) ms) × (zp ≡ applyPositions n levels (now xv) (now xr) ps (now xm) (movesOf ms)) × (zm ≡ applyMap n levels (now xv) (now xr) ps (now xm) (movesOf ms))
+  Applied r zp zm =
+      (valuePaper r ≡ recordsAnswer n levels (now xv) (now xr) ps (now xm) ms) × (zp ≡ applyPositions n levels (now xv) (now xr) ps (now xm) (movesOf ms)) × (zm ≡ applyMap n levels (now xv) (now xr) ps (now xm) (movesOf ms))
 
   -- ---- the call of `opened`
   abbrev to-opened : Opened 𝓤 H A mem run .Ghost

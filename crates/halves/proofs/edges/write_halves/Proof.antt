@@ -32,7 +32,11 @@ loop-less : tie.Need-loop-less Inv-loop μ-loop
 loop-less c = omega arith
 
 loop-again : tie.Need-loop-again Inv-loop μ-loop
-loop-again c = let s = c .before .before .before .before .before .before .before .before in (omega arith, halves-join (s .pre .0) (c .before .before .before .before .before .loop .inv .1) (c .before .before .write-half .ensures) (place-more (s .pre .1 .1 .0)))
+loop-again c =
+    let s = c .before .before .before .before .before .before .before .before in (
+      omega arith,
+      halves-join (s .pre .0) (c .before .before .before .before .before .loop .inv .1) (c .before .before .write-half .ensures) (place-more (s .pre .1 .1 .0)),
+    )
 
 same-length : tie.Need-same-length Inv-loop μ-loop
 same-length c = c .before .loop .inv .1 .nearer .long

@@ -109,9 +109,14 @@ returns-2 c =
     let h = s .pre .1 .1 .0 in
     let l : s .args .k < getD (s .args .valences .now) (s .args .p) 0 = omega arith in
     let ring = c .before .before .before .before .before .before .before .before .row-of .result .now in
-    let e = row-is-ring (s .args .valences .now) (s .args .rings .now) (s .args .p) (s .args .n) (s .pre .1 .1 .1 .0) (c .before .before .before .before .before .before .before .before .row-of .ensures .0) in
+    let e =
+    row-is-ring (s .args .valences .now) (s .args .rings .now) (s .args .p) (s .args .n) (s .pre .1 .1 .1 .0)
+    (c .before .before .before .before .before .before .before .before .row-of .ensures .0) in
     let f = ap (λ (t : List ℕ). getD t (s .args .k) 0) e in
-    let g = c .before .before .before .edge-point-at .ensures .0 ∙ new-point-is (L .ready) h ring e (s .args .positions .now) (s .args .k) _ _ (omega (arith, c .before .before .before .before .before .before .before .before .row-of .ensures .1)) refl refl in
+    let g =
+    c .before .before .before .edge-point-at .ensures .0
+    ∙ new-point-is (L .ready) h ring e (s .args .positions .now) (s .args .k) _ _
+    (omega (arith, c .before .before .before .before .before .before .before .before .row-of .ensures .1)) refl refl in
     point-written L (s .args .p) (s .args .k) h l _ (s .pre .1 .0 .place (s .args .p) h (s .args .k) l) (omega (arith, f, c .before .before .before .before .before .before .if1 .left))
     (c .before .set-point .ensures ∙ ap (λ (z : Point). put (s .args .positions .now) ((s .args .count + getD (s .args .rings .now) ((s .args .count + s .args .p) * 32 + s .args .k) 0) * 3) (coordinates z)) g)
 

@@ -9,7 +9,8 @@ use Rattle.level.proofs.points.ring_sums.Statement.{statement}
 use Rattle.level.proofs.points.ring_sums.Tie as tie
 
 abbrev Inv-loop : tie.InvT-loop
-Inv-loop ring positions count x₀ y₀ z₀ i₀ x y z i = (i ≤ length ring) × SumOf (take i ring) (coordinateAt positions 0) x × SumOf (take i ring) (coordinateAt positions 1) y × SumOf (take i ring) (coordinateAt positions 2) z
+Inv-loop ring positions count x₀ y₀ z₀ i₀ x y z i =
+    (i ≤ length ring) × SumOf (take i ring) (coordinateAt positions 0) x × SumOf (take i ring) (coordinateAt positions 1) y × SumOf (take i ring) (coordinateAt positions 2) z
 
 abbrev μ-loop : tie.MeasureT-loop
 μ-loop ring positions count x₀ y₀ z₀ i₀ x y z i = length ring - i

@@ -32,7 +32,10 @@ is-beyond-requires-2 : tie.Need-is-beyond-requires-2
 is-beyond-requires-2 c κs = search needs
 
 returns-2 : tie.Need-returns-2
-returns-2 c = let k = c .before .before .before .before in beyond-y _ _ _ (beyond-read _ _ (k .before .is-beyond-arg .given) (k .is-beyond .ensures)) _ (beyond-read _ _ (c .before .before .is-beyond-arg2 .given) (c .before .is-beyond2 .ensures)) (c .before .before .before .if1 .left) (c .if2 .taken)
+returns-2 c =
+    let k = c .before .before .before .before in
+    beyond-y _ _ _ (beyond-read _ _ (k .before .is-beyond-arg .given) (k .is-beyond .ensures)) _
+    (beyond-read _ _ (c .before .before .is-beyond-arg2 .given) (c .before .is-beyond2 .ensures)) (c .before .before .before .if1 .left) (c .if2 .taken)
 
 add-is-beyond-2 : tie.Need-add-is-beyond-2
 add-is-beyond-2 c = search needs
@@ -47,7 +50,12 @@ is-beyond-requires-3 : tie.Need-is-beyond-requires-3
 is-beyond-requires-3 c κs = search needs
 
 returns-3 : tie.Need-returns-3
-returns-3 c = let d = c .before .before in let k = d .before .before .before .before in beyond-z _ _ _ (beyond-read _ _ (k .before .is-beyond-arg .given) (k .is-beyond .ensures)) _ (beyond-read _ _ (d .before .before .is-beyond-arg2 .given) (d .before .is-beyond2 .ensures)) (d .before .before .before .if1 .left) (d .if2 .left) _ (beyond-read _ _ (c .before .is-beyond-arg3 .given) (c .is-beyond3 .ensures))
+returns-3 c =
+    let d = c .before .before in
+    let k = d .before .before .before .before in
+    beyond-z _ _ _ (beyond-read _ _ (k .before .is-beyond-arg .given) (k .is-beyond .ensures)) _
+    (beyond-read _ _ (d .before .before .is-beyond-arg2 .given) (d .before .is-beyond2 .ensures)) (d .before .before .before .if1 .left) (d .if2 .left) _
+    (beyond-read _ _ (c .before .is-beyond-arg3 .given) (c .is-beyond3 .ensures))
 
 pub has-beyond-spec : {M : Type 1} → statement M
 has-beyond-spec =

@@ -13,7 +13,9 @@ opens : (c : tie.Else1) → isFirst (c .before .before .before .args .bytes .now
 opens c = first-good _ (c .before .is-record .ensures) (c .if1 .left)
 
 ends : (c : tie.Else3) → (c .before .before .before .before .past-rows .result .at) + 6 ≤ length (c .before .before .before .before .before .before .before .before .before .args .bytes .now)
-ends c = last-fits _ (opens (c .before .before .before .before .before .before)) _ (c .before .before .before .before .before .two-at .ensures .0) _ _ (c .before .before .before .before .past-rows .ensures) (c .before .before .if2 .left) (c .before .is-record2 .ensures) (c .if3 .left)
+ends c =
+    last-fits _ (opens (c .before .before .before .before .before .before)) _ (c .before .before .before .before .before .two-at .ensures .0) _ _
+    (c .before .before .before .before .past-rows .ensures) (c .before .before .if2 .left) (c .before .is-record2 .ensures) (c .if3 .left)
 
 is-record-requires : tie.Need-is-record-requires
 is-record-requires c κs = search needs
@@ -34,7 +36,9 @@ is-record-requires-2 : tie.Need-is-record-requires-2
 is-record-requires-2 c κs = search needs
 
 returns-3 : tie.Need-returns-3
-returns-3 c = judged-last _ (opens (c .before .before .before .before .before .before)) _ (c .before .before .before .before .before .two-at .ensures .0) _ _ (c .before .before .before .before .past-rows .ensures) (c .before .before .if2 .left) (c .before .is-record2 .ensures) (c .if3 .taken)
+returns-3 c =
+    judged-last _ (opens (c .before .before .before .before .before .before)) _ (c .before .before .before .before .before .two-at .ensures .0) _ _
+    (c .before .before .before .before .past-rows .ensures) (c .before .before .if2 .left) (c .before .is-record2 .ensures) (c .if3 .taken)
 
 add-if4 : tie.Need-add-if4
 add-if4 c = let h = ends c in search needs
@@ -43,10 +47,16 @@ add-t12 : tie.Need-add-t12
 add-t12 c = let h = ends (c .before) in search needs
 
 returns-4 : tie.Need-returns-4
-returns-4 c = judged-tail _ (opens (c .before .before .before .before .before .before .before)) _ (c .before .before .before .before .before .before .two-at .ensures .0) _ _ (c .before .before .before .before .before .past-rows .ensures) (c .before .before .before .if2 .left) (c .before .before .is-record2 .ensures) (c .before .if3 .left) (c .if4 .taken)
+returns-4 c =
+    judged-tail _ (opens (c .before .before .before .before .before .before .before)) _ (c .before .before .before .before .before .before .two-at .ensures .0) _ _
+    (c .before .before .before .before .before .past-rows .ensures) (c .before .before .before .if2 .left) (c .before .before .is-record2 .ensures) (c .before .if3 .left)
+    (c .if4 .taken)
 
 returns-5 : tie.Need-returns-5
-returns-5 c = judged-good _ (opens (c .before .before .before .before .before .before .before)) _ (c .before .before .before .before .before .before .two-at .ensures .0) _ _ (c .before .before .before .before .before .past-rows .ensures) (c .before .before .before .if2 .left) (c .before .before .is-record2 .ensures) (c .before .if3 .left) (c .if4 .left)
+returns-5 c =
+    judged-good _ (opens (c .before .before .before .before .before .before .before)) _ (c .before .before .before .before .before .before .two-at .ensures .0) _ _
+    (c .before .before .before .before .before .past-rows .ensures) (c .before .before .before .if2 .left) (c .before .before .is-record2 .ensures) (c .before .if3 .left)
+    (c .if4 .left)
 
 pub judge-spec : {M : Type 1} → statement M
 judge-spec =

@@ -49,7 +49,8 @@ difference-requires c κs =
     let k = st .args .shift in
     let h = st .pre .1 .1 .0 in
     let n = toward (st .args .negative) lift (st .args .digits) in
-    let e : c .nearest .result ≡ roundNat n (2 ^ k) = c .nearest .ensures ∙ ap (λ (m : ℕ). roundNat m ((1 * 2 ^ k) % 18446744073709551616)) (c .before .lifted .ensures) ∙ ap (roundNat n) (one-is k h) in
+    let e : c .nearest .result ≡ roundNat n (2 ^ k) =
+    c .nearest .ensures ∙ ap (λ (m : ℕ). roundNat m ((1 * 2 ^ k) % 18446744073709551616)) (c .before .lifted .ensures) ∙ ap (roundNat n) (one-is k h) in
     omega (arith, e, roundNat-le (lift / 2 ^ k + mostUnits) n (2 ^ k) (pow-pos k) (top-le (st .args .negative) (st .args .digits) k h (st .pre .1 .1 .1)), whole-le k (st .pre .1 .0) h)
 
 returns : tie.Need-returns
@@ -62,7 +63,11 @@ returns c =
     let w = lift / 2 ^ k in
     let p = st .pre .1 .1 .1 in
     let e : c .before .nearest .result ≡ roundNat (toward s (w * 2 ^ k) d) (2 ^ k)
-    = c .before .nearest .ensures ∙ ap (λ (m : ℕ). roundNat m ((1 * 2 ^ k) % 18446744073709551616)) (c .before .before .lifted .ensures) ∙ ap (roundNat (toward s lift d)) (one-is k h) ∙ ap (λ (t : ℕ). roundNat (toward s t d) (2 ^ k)) (sym (whole-is k h)) in
+    =
+    c .before .nearest .ensures
+    ∙ ap (λ (m : ℕ). roundNat m ((1 * 2 ^ k) % 18446744073709551616)) (c .before .before .lifted .ensures)
+    ∙ ap (roundNat (toward s lift d)) (one-is k h)
+    ∙ ap (λ (t : ℕ). roundNat (toward s t d) (2 ^ k)) (sym (whole-is k h)) in
     let q : c .difference .result ≡ rounded (signed s d) (2 ^ k)
     = c .difference .ensures ∙ ap (λ (m : ℕ). subℕ m w) e ∙ sym (rounded-signed s d (2 ^ k) w (pow-pos k) (whole-even k h) (omega (arith, whole-is k h))) in
     let i = subst InRange (sym q) (rounded-in s d (2 ^ k) (pow-pos k) p) in

@@ -27,7 +27,9 @@ second : (c : tie.After-y) → Got (c .before .before .before .before .before .b
 second c = was-units (c .before .before .before .before .before .before .before .args .m .y) (c .y .given .0 .0) (sym (c .before .before .units-of2 .ensures) ∙ c .y .given .1)
 
 third : (c : tie.After-z) → Got (c .before .before .before .before .before .before .before .before .before .before .before .args .m .z) (c .z .given .0 .0)
-third c = was-units (c .before .before .before .before .before .before .before .before .before .before .before .args .m .z) (c .z .given .0 .0) (sym (c .before .before .units-of3 .ensures) ∙ c .z .given .1)
+third c =
+    was-units (c .before .before .before .before .before .before .before .before .before .before .before .args .m .z) (c .z .given .0 .0)
+    (sym (c .before .before .units-of3 .ensures) ∙ c .z .given .1)
 
 read-back : (x : Float) (z : ℤ) → Got x z → toZ w32 (ofZ w32 z) ≡ unitsOf x
 read-back x z g = there z (subst InRange (sym (g .1)) (units-in x (subst T (sym (g .0)) tt))) ∙ g .1

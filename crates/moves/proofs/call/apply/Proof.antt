@@ -162,7 +162,8 @@ module _ {M : Type 1} (𝓤 : URA M) (H : Heap 𝓤) (A : Atoms 𝓤) (W : Given
 
   -- what `settle` says of its result and the last lists, of a plan
   abbrev Said : Plan → Amount → List ℤ → List ℕ → Type 0
-  Said s r zp zm = (r ≡ settleAnswer s count levels (now xv) (now xr) ps (now xm)) × (zp ≡ settlePositions s count levels (now xv) (now xr) ps (now xm)) × (zm ≡ settleMap s count levels (now xv) (now xr) ps (now xm))
+  Said s r zp zm =
+      (r ≡ settleAnswer s count levels (now xv) (now xr) ps (now xm)) × (zp ≡ settlePositions s count levels (now xv) (now xr) ps (now xm)) × (zm ≡ settleMap s count levels (now xv) (now xr) ps (now xm))
 
   -- the list's plan
   abbrev listed : Plan
@@ -170,7 +171,8 @@ module _ {M : Type 1} (𝓤 : URA M) (H : Heap 𝓤) (A : Atoms 𝓤) (W : Given
 
   -- what the call says of its result and the last lists
   abbrev Applied : Amount → List ℤ → List ℕ → Type 0
-  Applied r zp zm = (r ≡ applyAnswer n levels (now xv) (now xr) ps (now xm) ms) × (zp ≡ applyPositions n levels (now xv) (now xr) ps (now xm) ms) × (zm ≡ applyMap n levels (now xv) (now xr) ps (now xm) ms)
+  Applied r zp zm =
+      (r ≡ applyAnswer n levels (now xv) (now xr) ps (now xm) ms) × (zp ≡ applyPositions n levels (now xv) (now xr) ps (now xm) ms) × (zm ≡ applyMap n levels (now xv) (now xr) ps (now xm) ms)
 
   -- the plan of the list, settled, is that
   applied : {r : Amount} {zp : List ℤ} {zm : List ℕ} → Said listed r zp zm → Applied r zp zm

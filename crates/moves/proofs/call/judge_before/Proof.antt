@@ -51,13 +51,24 @@ first-strange-requires : tie.Need-first-strange-requires
 first-strange-requires c κs = let k = c .before .before in (sym (accepted (k .before .before)), edges-are (stack (k .before .before)) _ (k .before .edge-count .ensures .0))
 
 returns-3 : tie.Need-returns-3
-returns-3 c = let k = c .before .before .before .before in before-strange _ _ _ _ _ _ _ (accepted (k .before .before)) _ (counted k) (omega (arith, c .before .before .if1 .left, c .before .before .before .words-for .ensures)) _ (c .before .first-strange .ensures) (c .if2 .taken)
+returns-3 c =
+    let k = c .before .before .before .before in
+    before-strange _ _ _ _ _ _ _ (accepted (k .before .before)) _ (counted k) (omega (arith, c .before .before .if1 .left, c .before .before .before .words-for .ensures))
+    _ (c .before .first-strange .ensures) (c .if2 .taken)
 
 returns-4 : tie.Need-returns-4
-returns-4 c = let k = c .before .before .before .before .before in before-many _ _ _ _ _ _ _ (accepted (k .before .before)) _ (counted k) (omega (arith, c .before .before .before .if1 .left, c .before .before .before .before .words-for .ensures)) _ (c .before .before .first-strange .ensures) (c .before .if2 .left) (c .if3 .taken)
+returns-4 c =
+    let k = c .before .before .before .before .before in
+    before-many _ _ _ _ _ _ _ (accepted (k .before .before)) _ (counted k)
+    (omega (arith, c .before .before .before .if1 .left, c .before .before .before .before .words-for .ensures)) _ (c .before .before .first-strange .ensures)
+    (c .before .if2 .left) (c .if3 .taken)
 
 returns-5 : tie.Need-returns-5
-returns-5 c = let k = c .before .before .before .before .before in before-accepted _ _ _ _ _ _ _ (accepted (k .before .before)) _ (counted k) (omega (arith, c .before .before .before .if1 .left, c .before .before .before .before .words-for .ensures)) _ (c .before .before .first-strange .ensures) (c .before .if2 .left) (c .if3 .left)
+returns-5 c =
+    let k = c .before .before .before .before .before in
+    before-accepted _ _ _ _ _ _ _ (accepted (k .before .before)) _ (counted k)
+    (omega (arith, c .before .before .before .if1 .left, c .before .before .before .before .words-for .ensures)) _ (c .before .before .first-strange .ensures)
+    (c .before .if2 .left) (c .if3 .left)
 
 pub judge-before-spec : {M : Type 1} → statement M
 judge-before-spec =

@@ -50,7 +50,10 @@ same-length-4 : tie.Need-same-length-4
 same-length-4 c = search needs
 
 returns-3 : tie.Need-returns-3
-returns-3 c = let k = c .before .before .before .carry-out .ensures in settle-done _ _ _ _ _ _ _ (accepted (c .before .before .before .before .before .before .before .before)) (c .before .before .before .before .before .before .enum-told2 .given .1) _ _ _ (k .0) (k .1 .0) (k .1 .1)
+returns-3 c =
+    let k = c .before .before .before .carry-out .ensures in
+    settle-done _ _ _ _ _ _ _ (accepted (c .before .before .before .before .before .before .before .before))
+    (c .before .before .before .before .before .before .enum-told2 .given .1) _ _ _ (k .0) (k .1 .0) (k .1 .1)
 
 pub settle-spec : {M : Type 1} → statement M
 settle-spec =

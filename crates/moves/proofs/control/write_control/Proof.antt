@@ -15,7 +15,8 @@ use Rattle.moves.proofs.control.write_control.Statement.{statement}
 use Rattle.moves.proofs.control.write_control.Tie as tie
 
 abbrev Inv-loop : tie.InvT-loop
-Inv-loop positions₀ map₀ entries taken k₀ positions map k = (k ≤ taken) × ((length positions ≡ length positions₀) × ((length map ≡ length map₀) × ((positions ≡ laid positions₀ (take k entries)) × (marked map ≡ withNamed (marked map₀) (take k entries)))))
+Inv-loop positions₀ map₀ entries taken k₀ positions map k =
+    (k ≤ taken) × ((length positions ≡ length positions₀) × ((length map ≡ length map₀) × ((positions ≡ laid positions₀ (take k entries)) × (marked map ≡ withNamed (marked map₀) (take k entries)))))
 
 abbrev μ-loop : tie.MeasureT-loop
 μ-loop positions₀ map₀ entries taken k₀ positions map k = taken - k
@@ -43,7 +44,8 @@ mark-requires : tie.Need-mark-requires Inv-loop μ-loop
 mark-requires c κs =
     let b = c .before .before .before .before .before .before .before .before in
     let st = b .before .before .before in
-    let low : getD (st .args .plan .entries) (b .loop .k) blank .vertex < st .args .plan .count = st .pre .0 .below (b .loop .k) (c .before .before .before .before .before .before .before .loop-test .taken) blank in
+    let low : getD (st .args .plan .entries) (b .loop .k) blank .vertex < st .args .plan .count =
+    st .pre .0 .below (b .loop .k) (c .before .before .before .before .before .before .before .loop-test .taken) blank in
     omega (arith, st .pre .1 .1 .0, b .loop .inv .1 .1 .0)
 
 add-k : tie.Need-add-k Inv-loop μ-loop

@@ -32,10 +32,16 @@ is-beyond-requires-3 : tie.Need-is-beyond-requires-3
 is-beyond-requires-3 c κs = search needs
 
 returns-3 : tie.Need-returns-3
-returns-3 c = let e = c .before .before .before in let d = e .before .before .before in kept-z _ (sym (d .if1 .left) ∙ first (d .before)) (sym (e .if2 .left) ∙ second (e .before)) (sym (c .if3 .taken) ∙ third (c .before))
+returns-3 c =
+    let e = c .before .before .before in
+    let d = e .before .before .before in
+    kept-z _ (sym (d .if1 .left) ∙ first (d .before)) (sym (e .if2 .left) ∙ second (e .before)) (sym (c .if3 .taken) ∙ third (c .before))
 
 returns-4 : tie.Need-returns-4
-returns-4 c = let e = c .before .before .before in let d = e .before .before .before in kept-self _ (sym (d .if1 .left) ∙ first (d .before)) (sym (e .if2 .left) ∙ second (e .before)) (sym (c .if3 .left) ∙ third (c .before))
+returns-4 c =
+    let e = c .before .before .before in
+    let d = e .before .before .before in
+    kept-self _ (sym (d .if1 .left) ∙ first (d .before)) (sym (e .if2 .left) ∙ second (e .before)) (sym (c .if3 .left) ∙ third (c .before))
 
 pub kept-spec : {M : Type 1} → statement M
 kept-spec =

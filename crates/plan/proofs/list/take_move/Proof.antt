@@ -17,13 +17,19 @@ module _ (c : tie.After-moved-point) (t : Plan) where
   start = c .before .before .before .before .before .before .before
 
   at-point : (q : Point) → c .moved-point .result ≡ At q → t ≡ notedIn (start .args .plan) (start .args .m .vertex) q → t ≡ takenIn (now (start .args .positions)) (start .args .plan) (start .args .m)
-  at-point = taken-at _ _ _ _ _ _ _ _ (c .before .before .before .before .read-point .ensures) (c .before .before .before .latest .ensures) (c .before .before .kept .ensures) (c .before .mm-of .ensures) (c .moved-point .ensures) t
+  at-point =
+      taken-at _ _ _ _ _ _ _ _ (c .before .before .before .before .read-point .ensures) (c .before .before .before .latest .ensures) (c .before .before .kept .ensures)
+      (c .before .mm-of .ensures) (c .moved-point .ensures) t
 
   not-fit : c .moved-point .result ≡ NotFinite → t ≡ refusedIn (start .args .plan) (refusal.NotFinite (start .args .plan .taken)) → t ≡ takenIn (now (start .args .positions)) (start .args .plan) (start .args .m)
-  not-fit = taken-unfit _ _ _ _ _ _ _ _ (c .before .before .before .before .read-point .ensures) (c .before .before .before .latest .ensures) (c .before .before .kept .ensures) (c .before .mm-of .ensures) (c .moved-point .ensures) t
+  not-fit =
+      taken-unfit _ _ _ _ _ _ _ _ (c .before .before .before .before .read-point .ensures) (c .before .before .before .latest .ensures) (c .before .before .kept .ensures)
+      (c .before .mm-of .ensures) (c .moved-point .ensures) t
 
   too-far : c .moved-point .result ≡ Outside → t ≡ refusedIn (start .args .plan) (refusal.Outside (start .args .plan .taken)) → t ≡ takenIn (now (start .args .positions)) (start .args .plan) (start .args .m)
-  too-far = taken-outside _ _ _ _ _ _ _ _ (c .before .before .before .before .read-point .ensures) (c .before .before .before .latest .ensures) (c .before .before .kept .ensures) (c .before .mm-of .ensures) (c .moved-point .ensures) t
+  too-far =
+      taken-outside _ _ _ _ _ _ _ _ (c .before .before .before .before .read-point .ensures) (c .before .before .before .latest .ensures)
+      (c .before .before .kept .ensures) (c .before .mm-of .ensures) (c .moved-point .ensures) t
 
 cast-v : tie.Need-cast-v
 cast-v c = search needs

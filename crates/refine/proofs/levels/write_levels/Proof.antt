@@ -84,7 +84,11 @@ loop-less : tie.Need-loop-less Inv-loop μ-loop
 loop-less c = omega arith
 
 loop-again : tie.Need-loop-again Inv-loop μ-loop
-loop-again c = let k = c .before .before .before .before .before .before .before .before .before .before in running-more (c .before .before .before .before .before .before .before .before .before .before .before .before .before .before .before .pre) (k .loop .inv) (omega arith) _ _ _ (c .before .before .before .before .before .write-level .ensures .0) (c .before .before .before .before .before .write-level .ensures .1 .0) (c .before .before .before .before .before .write-level .ensures .1 .1)
+loop-again c =
+    let k = c .before .before .before .before .before .before .before .before .before .before in
+    running-more (c .before .before .before .before .before .before .before .before .before .before .before .before .before .before .before .pre) (k .loop .inv)
+    (omega arith) _ _ _ (c .before .before .before .before .before .write-level .ensures .0) (c .before .before .before .before .before .write-level .ensures .1 .0)
+    (c .before .before .before .before .before .write-level .ensures .1 .1)
 
 mul-t31 : tie.Need-mul-t31 Inv-loop μ-loop
 mul-t31 c = let h = bounds (c .before) in omega arith
@@ -99,7 +103,10 @@ same-length-3 : tie.Need-same-length-3 Inv-loop μ-loop
 same-length-3 c = running-lengths (c .before .before .before .before .before .before .pre) (c .before .loop .inv) .1 .1
 
 returns : tie.Need-returns Inv-loop μ-loop
-returns c = (end-counts (c .before .before .before .before .before .before .pre) (c .before .loop .inv) (omega arith), end-tables (c .before .before .before .before .before .before .pre) (c .before .loop .inv) (omega arith))
+returns c = (
+  end-counts (c .before .before .before .before .before .before .pre) (c .before .loop .inv) (omega arith),
+  end-tables (c .before .before .before .before .before .before .pre) (c .before .loop .inv) (omega arith),
+)
 
 pub write-levels-spec : {M : Type 1} → statement M
 write-levels-spec =

@@ -76,7 +76,9 @@ same-length : tie.Need-same-length Inv-loop μ-loop
 same-length c = c .before .loop .inv .1 .long ∙ c .before .before .before .before .mark-old .kept .0
 
 same-length-2 : tie.Need-same-length-2 Inv-loop μ-loop
-same-length-2 c = let h = c .before .before .before .before .before .before .before .before .before .pre in let e = h .0 in let i = c .before .loop .inv .0 in refreshed-long (h .1 .1 .0) (c .before .loop .inv .1) (omega arith)
+same-length-2 c =
+    let h = c .before .before .before .before .before .before .before .before .before .pre in
+    let e = h .0 in let i = c .before .loop .inv .0 in refreshed-long (h .1 .1 .0) (c .before .loop .inv .1) (omega arith)
 
 returns : tie.Need-returns Inv-loop μ-loop
 returns c =

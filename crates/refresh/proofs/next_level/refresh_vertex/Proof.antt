@@ -19,7 +19,9 @@ same-length-2 c = search needs
 
 returns : tie.Need-returns
 unfolding rows
-returns c = let s = c .before .before .before .before .before .before .before .before in (with-same _ _ _ _ (s .pre .1 .1 .1 .1 .old (s .args .x) (c .before .before .before .before .if1 .taken)), c .before .refresh-old .ensures)
+returns c =
+    let s = c .before .before .before .before .before .before .before .before in
+    (with-same _ _ _ _ (s .pre .1 .1 .1 .1 .old (s .args .x) (c .before .before .before .before .if1 .taken)), c .before .refresh-old .ensures)
 
 same-length-3 : tie.Need-same-length-3
 same-length-3 c = search needs

@@ -66,7 +66,10 @@ same-length-6 : tie.Need-same-length-6
 same-length-6 c = search needs
 
 returns-3 : tie.Need-returns-3
-returns-3 c = let k = c .before .before .before .before in let i = k .before .before .before .before in erase-done _ _ _ _ _ (accepted (i .before .before .before .before .before)) _ (at i) _ _ (k .erase-at .ensures .0) (k .erase-at .ensures .1)
+returns-3 c =
+    let k = c .before .before .before .before in
+    let i = k .before .before .before .before in
+    erase-done _ _ _ _ _ (accepted (i .before .before .before .before .before)) _ (at i) _ _ (k .erase-at .ensures .0) (k .erase-at .ensures .1)
 
 pub erase-spec : {M : Type 1} → statement M
 erase-spec =

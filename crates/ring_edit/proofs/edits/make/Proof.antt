@@ -44,7 +44,9 @@ same-length-4 c = search needs
 
 returns-2 : tie.Need-returns-2
 unfolding makeEdit
-returns-2 c = let k = c .before .before .before .before in let e = accepted (k .before .before .before) in (e, edit-done _ _ _ _ e refl _ refl _ _ (k .write-ring .ensures .0) (k .write-ring .ensures .1))
+returns-2 c =
+    let k = c .before .before .before .before in
+    let e = accepted (k .before .before .before) in (e, edit-done _ _ _ _ e refl _ refl _ _ (k .write-ring .ensures .0) (k .write-ring .ensures .1))
 
 pub make-spec : {M : Type 1} → statement M
 make-spec =

@@ -33,13 +33,19 @@ is-there-requires : tie.Need-is-there-requires
 is-there-requires c κs = search needs
 
 returns-3 : tie.Need-returns-3
-returns-3 c = let d = c .before .before .before in entry-there _ _ _ _ (accepted (d .before .before)) _ (d .before .if1 .left) (d .if2 .left) _ (c .before .before .ring-of .ensures .0) _ (c .before .is-there .ensures) (c .if3 .taken)
+returns-3 c =
+    let d = c .before .before .before in
+    entry-there _ _ _ _ (accepted (d .before .before)) _ (d .before .if1 .left) (d .if2 .left) _ (c .before .before .ring-of .ensures .0) _ (c .before .is-there .ensures)
+    (c .if3 .taken)
 
 returns-4 : tie.Need-returns-4
 returns-4 c = entry-refused _ _ _ _ _ _ (sym (c .before .r .given .1) ∙ c .before .before .before .judge-call .ensures)
 
 returns-5 : tie.Need-returns-5
-returns-5 c = let d = c .before .before .before in entry-pass _ _ _ _ (accepted (d .before .before)) _ (d .before .if1 .left) (d .if2 .left) _ (c .before .before .ring-of .ensures .0) _ (c .before .is-there .ensures) (c .if3 .left)
+returns-5 c =
+    let d = c .before .before .before in
+    entry-pass _ _ _ _ (accepted (d .before .before)) _ (d .before .if1 .left) (d .if2 .left) _ (c .before .before .ring-of .ensures .0) _ (c .before .is-there .ensures)
+    (c .if3 .left)
 
 pub judge-entry-spec : {M : Type 1} → statement M
 judge-entry-spec =

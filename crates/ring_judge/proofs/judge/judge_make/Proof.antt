@@ -36,10 +36,17 @@ has-bad-requires : tie.Need-has-bad-requires
 has-bad-requires c κs = search needs
 
 returns-4 : tie.Need-returns-4
-returns-4 c = let f = c .before .before .before in let d = f .before in make-taken _ _ _ _ (accepted (d .before)) _ (d .if1 .left) _ (f .first-unknown .ensures) (c .before .before .if2 .left) _ (c .before .has-bad .ensures) (c .if3 .taken)
+returns-4 c =
+    let f = c .before .before .before in
+    let d = f .before in
+    make-taken _ _ _ _ (accepted (d .before)) _ (d .if1 .left) _ (f .first-unknown .ensures) (c .before .before .if2 .left) _ (c .before .has-bad .ensures)
+    (c .if3 .taken)
 
 returns-5 : tie.Need-returns-5
-returns-5 c = let f = c .before .before .before in let d = f .before in make-pass _ _ _ _ (accepted (d .before)) _ (d .if1 .left) _ (f .first-unknown .ensures) (c .before .before .if2 .left) _ (c .before .has-bad .ensures) (c .if3 .left)
+returns-5 c =
+    let f = c .before .before .before in
+    let d = f .before in
+    make-pass _ _ _ _ (accepted (d .before)) _ (d .if1 .left) _ (f .first-unknown .ensures) (c .before .before .if2 .left) _ (c .before .has-bad .ensures) (c .if3 .left)
 
 pub judge-make-spec : {M : Type 1} → statement M
 judge-make-spec =

@@ -44,10 +44,14 @@ returns-2 : tie.Need-returns-2
 returns-2 c = if-hit _ _ _ _ (c .before .is-short-rings .ensures) (c .if2 .taken) ∙ past1 (c .before .before)
 
 returns-3 : tie.Need-returns-3
-returns-3 c = let a = c .before .before .before .before .before .before .before .args in if-hit (leb (a .count) (a .v)) (NoVertex 0) Accepted _ refl (le-leb (a .count) (a .v) (c .if3 .taken)) ∙ past2 (c .before)
+returns-3 c =
+    let a = c .before .before .before .before .before .before .before .args in
+    if-hit (leb (a .count) (a .v)) (NoVertex 0) Accepted _ refl (le-leb (a .count) (a .v) (c .if3 .taken)) ∙ past2 (c .before)
 
 returns-4 : tie.Need-returns-4
-returns-4 c = let a = c .before .before .before .before .before .before .before .args in sym (if-pass (leb (a .count) (a .v)) (NoVertex 0) Accepted _ refl (lt-leb (a .count) (a .v) (c .if3 .left))) ∙ past2 (c .before)
+returns-4 c =
+    let a = c .before .before .before .before .before .before .before .args in
+    sym (if-pass (leb (a .count) (a .v)) (NoVertex 0) Accepted _ refl (lt-leb (a .count) (a .v) (c .if3 .left))) ∙ past2 (c .before)
 
 pub judge-tables-spec : {M : Type 1} → statement M
 judge-tables-spec =

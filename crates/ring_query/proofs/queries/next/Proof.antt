@@ -31,13 +31,23 @@ shared-slice-read-t16 : tie.Need-shared-slice-read-t16
 shared-slice-read-t16 c = search needs
 
 returns : tie.Need-returns
-returns c = let t = c .before .before in let s = t .before in let r = s .before in let k = r .before in next-told _ _ _ _ (sym (k .enum-told .given .1) ∙ k .before .before .judge-call .ensures) _ _ (r .ring-of .ensures .0) _ (s .seek .ensures) _ (t .if1 .taken) (c .before .place-after .ensures .0)
+returns c =
+    let t = c .before .before in
+    let s = t .before in
+    let r = s .before in
+    let k = r .before in
+    next-told _ _ _ _ (sym (k .enum-told .given .1) ∙ k .before .before .judge-call .ensures) _ _ (r .ring-of .ensures .0) _ (s .seek .ensures) _ (t .if1 .taken)
+    (c .before .place-after .ensures .0)
 
 returns-2 : tie.Need-returns-2
 returns-2 c = next-refused _ _ _ _ _ _ (sym (c .before .r .given .1) ∙ c .before .before .before .judge-call .ensures)
 
 returns-3 : tie.Need-returns-3
-returns-3 c = let s = c .before in let r = s .before in let k = r .before in next-missing _ _ _ _ (sym (k .enum-told .given .1) ∙ k .before .before .judge-call .ensures) _ _ (r .ring-of .ensures .0) _ (s .seek .ensures) (c .if1 .left)
+returns-3 c =
+    let s = c .before in
+    let r = s .before in
+    let k = r .before in
+    next-missing _ _ _ _ (sym (k .enum-told .given .1) ∙ k .before .before .judge-call .ensures) _ _ (r .ring-of .ensures .0) _ (s .seek .ensures) (c .if1 .left)
 
 pub next-spec : {M : Type 1} → statement M
 next-spec =

@@ -59,7 +59,10 @@ same-length-2 : tie.Need-same-length-2
 same-length-2 c = search needs
 
 returns-2 : tie.Need-returns-2
-returns-2 c = let k = c .before .before in let s = k .before .before .before .before .before .before in at-opened _ _ _ (s .pre .0) (s .pre .1 .1 .0) _ _ (s .pre .1 .0) (k .before .before .if1 .left) _ (k .open-up .ensures)
+returns-2 c =
+    let k = c .before .before in
+    let s = k .before .before .before .before .before .before in
+    at-opened _ _ _ (s .pre .0) (s .pre .1 .1 .0) _ _ (s .pre .1 .0) (k .before .before .if1 .left) _ (k .open-up .ensures)
 
 pub insert-at-spec : {M : Type 1} → statement M
 insert-at-spec =

@@ -69,7 +69,8 @@ returns c =
     let k = c .before .before in
     let s = k .before .before .before .before .before in
     let f = length-front (s .args .row .now) (s .args .n) (s .pre .0) (most s) in
-    let e : length (opened (take (s .args .n) (s .args .row .now)) (s .args .i) (s .args .x)) ≡ s .args .n + 1 = omega (arith, f, opened-length (take (s .args .n) (s .args .row .now)) (s .args .i) (s .args .x)) in
+    let e : length (opened (take (s .args .n) (s .args .row .now)) (s .args .i) (s .args .x)) ≡ s .args .n + 1 =
+    omega (arith, f, opened-length (take (s .args .n) (s .args .row .now)) (s .args .i) (s .args .x)) in
     front-written (k .before .before .before .loop .inv .3) _ e (omega arith) (omega arith) _ (k .pad .ensures)
 
 pub open-up-spec : {M : Type 1} → statement M

@@ -19,10 +19,14 @@ agree3 : (c : tie.Else3) → let a = c .before .before .before .before .before .
 agree3 c = let s = c .before .before .before .before .before .before .before .before .before in six-more _ _ (s .pre .1) _ 2 (omega arith) (agree2 (c .before .before .before)) (c .if3 .left)
 
 agree4 : (c : tie.Else4) → let a = c .before .before .before .before .before .before .before .before .before .before .before .before .args in Agree (take 6 (drop (a .row * 32) (a .rings .now))) (placesOf (a .ring)) 4
-agree4 c = let s = c .before .before .before .before .before .before .before .before .before .before .before .before in six-more _ _ (s .pre .1) _ 3 (omega arith) (agree3 (c .before .before .before)) (c .if4 .left)
+agree4 c =
+    let s = c .before .before .before .before .before .before .before .before .before .before .before .before in
+    six-more _ _ (s .pre .1) _ 3 (omega arith) (agree3 (c .before .before .before)) (c .if4 .left)
 
 agree5 : (c : tie.Else5) → let a = c .before .before .before .before .before .before .before .before .before .before .before .before .before .before .before .args in Agree (take 6 (drop (a .row * 32) (a .rings .now))) (placesOf (a .ring)) 5
-agree5 c = let s = c .before .before .before .before .before .before .before .before .before .before .before .before .before .before .before in six-more _ _ (s .pre .1) _ 4 (omega arith) (agree4 (c .before .before .before)) (c .if5 .left)
+agree5 c =
+    let s = c .before .before .before .before .before .before .before .before .before .before .before .before .before .before .before in
+    six-more _ _ (s .pre .1) _ 4 (omega arith) (agree4 (c .before .before .before)) (c .if5 .left)
 
 mul-a : tie.Need-mul-a
 mul-a c = omega arith
@@ -100,7 +104,8 @@ shared-slice-read-result c = omega arith
 
 returns-6 : tie.Need-returns-6
 returns-6 c =
-    let s = c .before .before .before .before .before .before .before .before .before .before .before .before .before .before .before .before .before in six-last _ _ (s .pre .1) _ refl (agree5 (c .before .before))
+    let s = c .before .before .before .before .before .before .before .before .before .before .before .before .before .before .before .before .before in
+    six-last _ _ (s .pre .1) _ refl (agree5 (c .before .before))
 
 pub differs-new-spec : {M : Type 1} → statement M
 differs-new-spec =

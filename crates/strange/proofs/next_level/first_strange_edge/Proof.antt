@@ -41,7 +41,8 @@ cast-last c = omega (arith, c .shared-slice-known3 .given (c .before .place-over
 
 add-is-new-strange : tie.Need-add-is-new-strange Inv-loop μ-loop
 add-is-new-strange c =
-    let pre = c .before .before .before .before .before .before .before .pre in omega (arith, start-most (pre .0) (suc (c .before .before .before .before .before .before .before .args .p)) (pre .1 .1 .1 .0) (pre .1 .1 .1 .1 .1 .0))
+    let pre = c .before .before .before .before .before .before .before .pre in
+    omega (arith, start-most (pre .0) (suc (c .before .before .before .before .before .before .before .args .p)) (pre .1 .1 .1 .0) (pre .1 .1 .1 .1 .1 .0))
 
 is-new-strange-requires : tie.Need-is-new-strange-requires Inv-loop μ-loop
 is-new-strange-requires c κs =
@@ -71,7 +72,9 @@ is-new-strange-requires c κs =
 
 add-result : tie.Need-add-result Inv-loop μ-loop
 add-result c =
-    let pre = c .before .before .before .before .before .before .before .before .before .pre in omega (arith, start-most (pre .0) (suc (c .before .before .before .before .before .before .before .before .before .args .p)) (pre .1 .1 .1 .0) (pre .1 .1 .1 .1 .1 .0))
+    let pre = c .before .before .before .before .before .before .before .before .before .pre in
+    omega
+    (arith, start-most (pre .0) (suc (c .before .before .before .before .before .before .before .before .before .args .p)) (pre .1 .1 .1 .0) (pre .1 .1 .1 .1 .1 .0))
 
 returns : tie.Need-returns Inv-loop μ-loop
 returns c =
@@ -79,7 +82,9 @@ returns c =
 
 add-x : tie.Need-add-x Inv-loop μ-loop
 add-x c =
-    let pre = c .before .before .before .before .before .before .before .before .before .pre in omega (arith, start-most (pre .0) (suc (c .before .before .before .before .before .before .before .before .before .args .p)) (pre .1 .1 .1 .0) (pre .1 .1 .1 .1 .1 .0))
+    let pre = c .before .before .before .before .before .before .before .before .before .pre in
+    omega
+    (arith, start-most (pre .0) (suc (c .before .before .before .before .before .before .before .before .before .args .p)) (pre .1 .1 .1 .0) (pre .1 .1 .1 .1 .1 .0))
 
 loop-less : tie.Need-loop-less Inv-loop μ-loop
 loop-less c = omega arith

@@ -38,10 +38,14 @@ returns-2 c =
     next-ring _ _ _ _ _ _ (new-length (pre .0) (pre .1 .1 .1 .0) (pre .1 .1 .1 .1 .0) (pre .1 .1 .1 .1 .1 .0) (pre .1 .1 .1 .1 .1 .1)) v _ (new-compared (pre .0) (pre .1 .1 .1 .0) (pre .1 .1 .1 .1 .0) (pre .1 .1 .1 .1 .1 .0) (pre .1 .1 .1 .1 .1 .1) v _ (c .before .before .around .ensures) _ (c .before .differs-new .ensures)) (c .if2 .taken)
 
 add-has-beyond : tie.Need-add-has-beyond
-add-has-beyond c = let pre = c .before .before .before .before .before .before .before .pre in omega (arith, new-below (pre .0) (pre .1 .1 .1 .0) (pre .1 .1 .1 .1 .0) (pre .1 .1 .1 .1 .1 .0) (pre .1 .1 .1 .1 .1 .1))
+add-has-beyond c =
+    let pre = c .before .before .before .before .before .before .before .pre in
+    omega (arith, new-below (pre .0) (pre .1 .1 .1 .0) (pre .1 .1 .1 .1 .0) (pre .1 .1 .1 .1 .1 .0) (pre .1 .1 .1 .1 .1 .1))
 
 has-beyond-requires : tie.Need-has-beyond-requires
-has-beyond-requires c κs = let pre = c .before .before .before .before .before .before .before .pre in omega (arith, new-below (pre .0) (pre .1 .1 .1 .0) (pre .1 .1 .1 .1 .0) (pre .1 .1 .1 .1 .1 .0) (pre .1 .1 .1 .1 .1 .1))
+has-beyond-requires c κs =
+    let pre = c .before .before .before .before .before .before .before .pre in
+    omega (arith, new-below (pre .0) (pre .1 .1 .1 .0) (pre .1 .1 .1 .1 .0) (pre .1 .1 .1 .1 .1 .0) (pre .1 .1 .1 .1 .1 .1))
 
 returns-3 : tie.Need-returns-3
 returns-3 c =

@@ -19,7 +19,12 @@ abbrev μ-loop : tie.MeasureT-loop
 μ-loop valences rings₀ positions₀ count p₀ rings positions p = count - p
 
 loop-holds : tie.Need-loop-holds Inv-loop μ-loop
-loop-holds c = let s = c .before .before .args in (omega arith, halves-none (s .count) (s .valences .now) (s .rings .now) (no-vertex (s .valences .now)), points-none (s .count) (s .valences .now) (s .rings .now) (s .positions .now) (no-vertex (s .valences .now)))
+loop-holds c =
+    let s = c .before .before .args in (
+      omega arith,
+      halves-none (s .count) (s .valences .now) (s .rings .now) (no-vertex (s .valences .now)),
+      points-none (s .count) (s .valences .now) (s .rings .now) (s .positions .now) (no-vertex (s .valences .now)),
+    )
 
 write-around-requires : tie.Need-write-around-requires Inv-loop μ-loop
 write-around-requires c κs =

@@ -12,7 +12,8 @@ use Rattle.sweep.proofs.write.write_old.Statement.{statement}
 use Rattle.sweep.proofs.write.write_old.Tie as tie
 
 abbrev Inv-loop : tie.InvT-loop
-Inv-loop valences₀ rings₀ positions₀ count start₀ p₀ valences rings positions start p = (p ≤ count) × (start ≡ startOf count valences₀ rings₀ p) × Done count p valences₀ rings₀ positions₀ valences rings positions
+Inv-loop valences₀ rings₀ positions₀ count start₀ p₀ valences rings positions start p =
+    (p ≤ count) × (start ≡ startOf count valences₀ rings₀ p) × Done count p valences₀ rings₀ positions₀ valences rings positions
 
 abbrev μ-loop : tie.MeasureT-loop
 μ-loop valences₀ rings₀ positions₀ count start₀ p₀ valences rings positions start p = count - p

@@ -152,7 +152,10 @@ returns c =
     let rs = s .args .rings .now in
     let e : 6 ≡ getD vs p 0 = sym (c .before .before .before .before .before .before .before .before .before .before .before .before .before .before .if1 .taken) in
     let ps = s .args .positions .now in
-    let g = c .before .before .before .before .before .before .before .ring-point .ensures .0 ∙ ap (λ (t : List ℕ). pointBy (vertexMask p t) ps) (row-is-ring vs rs p _ e (c .before .before .before .before .before .before .before .before .before .row-of2 .ensures .0)) in
+    let g =
+    c .before .before .before .before .before .before .before .ring-point .ensures .0
+    ∙ ap (λ (t : List ℕ). pointBy (vertexMask p t) ps)
+    (row-is-ring vs rs p _ e (c .before .before .before .before .before .before .before .before .before .row-of2 .ensures .0)) in
     (next-start r p h (s .args .start) _ _ _ (s .pre .1 .1 .0) e (row-is-ring vs rs p _ e (c .before .before .before .before .before .before .before .before .before .before .before .before .row-of .ensures .0)) (c .before .before .before .before .before .before .before .before .before .before .before .count-below .ensures .0) .1, (c .before .before .before .before .before .write-old-ring .ensures, c .before .set-point .ensures ∙ ap (λ (z : Point). put ps ((s .args .count + p) * 3) (coordinates z)) g))
 
 row-of-requires-3 : tie.Need-row-of-requires-3
@@ -275,7 +278,10 @@ returns-2 c =
     let rs = s .args .rings .now in
     let e : getD vs p 0 ≡ getD vs p 0 = refl in
     let ps = s .args .positions .now in
-    let g = c .before .before .before .before .before .before .before .ring-point2 .ensures .0 ∙ ap (λ (t : List ℕ). pointBy (vertexMask p t) ps) (row-is-ring vs rs p _ e (c .before .before .before .before .before .before .before .before .before .row-of4 .ensures .0)) in
+    let g =
+    c .before .before .before .before .before .before .before .ring-point2 .ensures .0
+    ∙ ap (λ (t : List ℕ). pointBy (vertexMask p t) ps)
+    (row-is-ring vs rs p _ e (c .before .before .before .before .before .before .before .before .before .row-of4 .ensures .0)) in
     (next-start r p h (s .args .start) _ _ _ (s .pre .1 .1 .0) e (row-is-ring vs rs p _ e (c .before .before .before .before .before .before .before .before .before .before .before .before .row-of3 .ensures .0)) (c .before .before .before .before .before .before .before .before .before .before .before .count-below2 .ensures .0) .1, (c .before .before .before .before .before .write-old-ring2 .ensures, c .before .set-point2 .ensures ∙ ap (λ (z : Point). put ps ((s .args .count + p) * 3) (coordinates z)) g))
 
 pub write-vertex-spec : {M : Type 1} → statement M

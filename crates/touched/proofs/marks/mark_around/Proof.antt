@@ -23,13 +23,18 @@ add-mark-ring : tie.Need-add-mark-ring
 add-mark-ring c = let m = c .before .before .before .before .before .before .before .before .before .pre .0 .small in omega arith
 
 mark-ring-requires : tie.Need-mark-ring-requires
-mark-ring-requires c κs = let h = c .before .before .before .before .before .before .before .before .before .pre in (in-map-long (in-map _ (h .0) (omega arith)) (c .before .before .before .before .mark .kept .0), ring-below (h .1 .0) (h .1 .1) (c .ring-of .ensures .0))
+mark-ring-requires c κs =
+    let h = c .before .before .before .before .before .before .before .before .before .pre in
+    (in-map-long (in-map _ (h .0) (omega arith)) (c .before .before .before .before .mark .kept .0), ring-below (h .1 .0) (h .1 .1) (c .ring-of .ensures .0))
 
 same-length : tie.Need-same-length
 same-length c = c .before .before .mark-ring .kept .0 ∙ c .before .before .before .before .before .before .before .mark .kept .0
 
 returns : tie.Need-returns
-returns c = let s = c .before .before .before .before .before .before .before .before .before .before .before .before in around-marked (s .pre .1 .0) (s .pre .1 .1) (s .args .base) (c .before .before .before .before .before .before .before .mark .ensures) (c .before .before .before .ring-of .ensures .0) (c .before .before .mark-ring .ensures)
+returns c =
+    let s = c .before .before .before .before .before .before .before .before .before .before .before .before in
+    around-marked (s .pre .1 .0) (s .pre .1 .1) (s .args .base) (c .before .before .before .before .before .before .before .mark .ensures)
+    (c .before .before .before .ring-of .ensures .0) (c .before .before .mark-ring .ensures)
 
 pub mark-around-spec : {M : Type 1} → statement M
 mark-around-spec =

@@ -18,7 +18,9 @@ same-length : tie.Need-same-length
 same-length c = c .before .before .mark-around .kept .0
 
 returns : tie.Need-returns
-returns c = let e = sym (c .before .before .before .before .before .is-marked .ensures) ∙ c .before .before .before .before .if1 .taken in record { idle = λ z. absurd (true-not-false e z); around = λ z. c .before .before .mark-around .ensures }
+returns c =
+    let e = sym (c .before .before .before .before .before .is-marked .ensures) ∙ c .before .before .before .before .if1 .taken in
+    record { idle = λ z. absurd (true-not-false e z); around = λ z. c .before .before .mark-around .ensures }
 
 same-length-2 : tie.Need-same-length-2
 same-length-2 c = refl

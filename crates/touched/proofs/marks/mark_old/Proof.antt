@@ -29,7 +29,9 @@ clear-ahead-requires : tie.Need-clear-ahead-requires Inv-loop μ-loop
 clear-ahead-requires c κs = let m = c .before .before .before .before .before .before .pre .0 .room in let e = c .before .before .loop .inv .1 .0 in omega arith
 
 mark-by-requires : tie.Need-mark-by-requires Inv-loop μ-loop
-mark-by-requires c κs = let h = c .before .before .before .before .before .before .before .before .before .pre in (in-map-long (h .0) (c .before .before .before .before .before .loop .inv .1 .0), (h .1 .0, c .before .before .before .before .loop-test .taken))
+mark-by-requires c κs =
+    let h = c .before .before .before .before .before .before .before .before .before .pre in
+    (in-map-long (h .0) (c .before .before .before .before .before .loop .inv .1 .0), (h .1 .0, c .before .before .before .before .loop-test .taken))
 
 add-t : tie.Need-add-t Inv-loop μ-loop
 add-t c = omega arith
@@ -38,7 +40,15 @@ loop-less : tie.Need-loop-less Inv-loop μ-loop
 loop-less c = omega arith
 
 loop-again : tie.Need-loop-again Inv-loop μ-loop
-loop-again c = (omega arith, (c .before .before .mark-by .kept .0 ∙ c .before .before .before .before .before .before .before .before .loop .inv .1 .0, judging-more (c .before .before .before .before .before .before .before .before .before .before .before .before .pre .1 .0) (c .before .before .before .before .before .before .before .before .loop .inv .1 .1) (c .before .before .before .before .before .before .before .loop-test .taken) (c .before .before .mark-by .ensures)))
+loop-again c = (
+  omega arith,
+  (
+    c .before .before .mark-by .kept .0 ∙ c .before .before .before .before .before .before .before .before .loop .inv .1 .0,
+    judging-more (c .before .before .before .before .before .before .before .before .before .before .before .before .pre .1 .0)
+        (c .before .before .before .before .before .before .before .before .loop .inv .1 .1) (c .before .before .before .before .before .before .before .loop-test .taken)
+        (c .before .before .mark-by .ensures),
+  ),
+)
 
 add-t-2 : tie.Need-add-t-2 Inv-loop μ-loop
 add-t-2 c = let k = c .before .clear-ahead .ensures .0 in omega arith
@@ -47,7 +57,15 @@ loop-less-2 : tie.Need-loop-less-2 Inv-loop μ-loop
 loop-less-2 c = let k = c .before .clear-ahead .ensures .0 in let n = c .if1 .left in omega arith
 
 loop-again-2 : tie.Need-loop-again-2 Inv-loop μ-loop
-loop-again-2 c = let k = c .before .clear-ahead .ensures .0 in (omega arith, (c .before .before .before .before .loop .inv .1 .0, judging-skip (c .before .before .before .before .before .before .before .before .pre .1 .0) (c .before .before .before .before .loop .inv .1 .1) _ (omega arith) (c .before .clear-ahead .ensures .1)))
+loop-again-2 c =
+    let k = c .before .clear-ahead .ensures .0 in (
+      omega arith,
+      (
+        c .before .before .before .before .loop .inv .1 .0,
+        judging-skip (c .before .before .before .before .before .before .before .before .pre .1 .0) (c .before .before .before .before .loop .inv .1 .1) _ (omega arith)
+            (c .before .clear-ahead .ensures .1),
+      ),
+    )
 
 same-length : tie.Need-same-length Inv-loop μ-loop
 same-length c = c .before .loop .inv .1 .0

@@ -29,10 +29,15 @@ cast-mark : tie.Need-cast-mark Inv-loop μ-loop
 cast-mark c = omega (arith, c .shared-slice-known2 .given (c .before .before .before .loop .i))
 
 add-mark : tie.Need-add-mark Inv-loop μ-loop
-add-mark c = let h = c .before .before .before .before .before .before .pre in let m = h .0 .small in let l = h .1 .below (c .before .before .before .loop .i) (c .before .before .loop-test .taken) in omega arith
+add-mark c =
+    let h = c .before .before .before .before .before .before .pre in
+    let m = h .0 .small in let l = h .1 .below (c .before .before .before .loop .i) (c .before .before .loop-test .taken) in omega arith
 
 mark-requires : tie.Need-mark-requires Inv-loop μ-loop
-mark-requires c κs = let h = c .before .before .before .before .before .before .pre in let m = h .0 .room in let l = h .1 .below (c .before .before .before .loop .i) (c .before .before .loop-test .taken) in let e = c .before .before .before .loop .inv .1 .0 in omega arith
+mark-requires c κs =
+    let h = c .before .before .before .before .before .before .pre in
+    let m = h .0 .room in
+    let l = h .1 .below (c .before .before .before .loop .i) (c .before .before .loop-test .taken) in let e = c .before .before .before .loop .inv .1 .0 in omega arith
 
 add-i : tie.Need-add-i Inv-loop μ-loop
 add-i c = search needs
@@ -41,7 +46,13 @@ loop-less : tie.Need-loop-less Inv-loop μ-loop
 loop-less c = search needs
 
 loop-again : tie.Need-loop-again Inv-loop μ-loop
-loop-again c = (omega arith, (c .before .before .mark .kept .0 ∙ c .before .before .before .before .before .before .loop .inv .1 .0, ring-more (c .before .before .before .before .before .before .loop .inv .1 .1) (c .before .before .mark .ensures)))
+loop-again c = (
+  omega arith,
+  (
+    c .before .before .mark .kept .0 ∙ c .before .before .before .before .before .before .loop .inv .1 .0,
+    ring-more (c .before .before .before .before .before .before .loop .inv .1 .1) (c .before .before .mark .ensures),
+  ),
+)
 
 same-length : tie.Need-same-length Inv-loop μ-loop
 same-length c = c .before .loop .inv .1 .0
