@@ -24,7 +24,7 @@ pub fn difference(a: u64, b: u64) -> i32
     (a as i32) - (b as i32)
 }
 
-// n / d to the nearest whole number, halves upward. The library rounds here and in `nearest_even` only.
+// n / d to the nearest whole number, halves upward. The library rounds here and in `nearest_by_twice` only.
 pub fn nearest(n: u64, d: u64) -> u64
     requires { ⌜ n < 2 ^ 62 ⌝ ∗ ⌜ d < 2 ^ 61 ⌝ ∗ ⌜ 0 < d ⌝ }
     ensures { λ r. ⌜ r ≡ roundNat n d ⌝ }
@@ -33,7 +33,7 @@ pub fn nearest(n: u64, d: u64) -> u64
 }
 
 // n / 2h to the nearest whole number, halves upward, in 32 bits.
-fn nearest_even(n: u32, h: u32) -> u32
+fn nearest_by_twice(n: u32, h: u32) -> u32
     requires { ⌜ n < 2 ^ 31 ⌝ ∗ ⌜ h < 2 ^ 30 ⌝ ∗ ⌜ 0 < h ⌝ }
     ensures { λ r. ⌜ r ≡ roundNat n (2 * h) ⌝ }
 {
@@ -46,7 +46,7 @@ pub fn coordinate(n: u32, h: u32) -> i32
     requires { ⌜ n ≤ (offset + mostUnits) * (2 * h) ⌝ ∗ ⌜ h ≤ 4 * mostValence ⌝ ∗ ⌜ 0 < h ⌝ }
     ensures { λ r. ⌜ (r ≡ rounded (subℕ n (offset * (2 * h))) (2 * h)) × InRange r ⌝ }
 {
-    difference(nearest_even(n, h) as u64, OFFSET)
+    difference(nearest_by_twice(n, h) as u64, OFFSET)
 }
 
 // The new vertex of edge p, q, whose two faces have the further corners a and b.

@@ -1,4 +1,4 @@
--- `points::nearest_even` meets its contract. Assumes nothing.
+-- `points::nearest_by_twice` meets its contract. Assumes nothing.
 use mathlib.Core.Path.{_≡_, sym, ap₂, _∙_}
 use Prim.Native.Nat.{ℕ, _+_, _*_, _/_, _<_}
 use native.Mathlib.Nat.{mul-div-mul-left}
@@ -6,8 +6,8 @@ use native.Mathlib.Omega.{arith}
 use lib.Dec.{lit<}
 use borrow.Author.Needs.{needs}
 use Rattle.mesh.specs.Round.{roundNat}
-use Rattle.units.proofs.points.nearest_even.Statement.{statement}
-use Rattle.units.proofs.points.nearest_even.Tie as tie
+use Rattle.units.proofs.points.nearest_by_twice.Statement.{statement}
+use Rattle.units.proofs.points.nearest_by_twice.Tie as tie
 
 -- the fraction that rounding takes, with 2 taken out
 halved : (n h : ℕ) → (n + h) / (2 * h) ≡ roundNat n (2 * h)
@@ -28,5 +28,5 @@ div-result c = search needs
 returns : tie.Need-returns
 returns c = halved (c .args .n) (c .args .h)
 
-pub nearest-even-spec : {M : Type 1} → statement M
-nearest-even-spec = tie.close (tie.spec add-result mul-result div-result returns)
+pub nearest-by-twice-spec : {M : Type 1} → statement M
+nearest-by-twice-spec = tie.close (tie.spec add-result mul-result div-result returns)
