@@ -1,3 +1,2 @@
--- Laws on what crosses the C interface.
+-- Laws on the answers.
 pub mod Crossed
-pub mod RecordKinds

@@ -1,3 +1,2 @@
--- What crosses the C interface.
+-- Answers as they cross the C interface.
 pub mod Crossing
-pub mod Records

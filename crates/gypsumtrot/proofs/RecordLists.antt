@@ -11,8 +11,8 @@ use Rattle.plan.specs.Plan.{emptyPlan, walkOf}
 use Rattle.moves.specs.Settle.{settleAnswer, settlePositions, settleMap}
 use Rattle.plan.specs.declared.Plan.{Plan}
 use Rattle.moves.proofs.Settled.{settle-is-apply}
-use Rattle.crossing.specs.Records.{moveOf, movesOf, byKinds, recordsAnswer}
-use Rattle.crossing.specs.declared.MoveRecord.{MoveRecord}
+use Rattle.move_records.specs.Records.{moveOf, movesOf, byKinds, recordsAnswer}
+use Rattle.move_records.specs.declared.MoveRecord.{MoveRecord}
 
 module _ (n levels : ℕ) (vs rs : List ℕ) (ps : List ℤ) (words : List ℕ) (list : List MoveRecord) where
   abbrev planned : Plan

@@ -55,25 +55,25 @@ use Rattle.plan.proofs.list.opened.Symbol as opened-def
 use Rattle.plan.proofs.list.opened.Symbol.{name as #opened}
 use Rattle.plan.proofs.list.opened.Met as opened-thm
 use Rattle.crossing.specs.Crossing.{valuePaper}
-use Rattle.crossing.specs.Records.{movesOf, byKinds, recordsAnswer}
-use Rattle.crossing.specs.declared.MoveRecord.{MoveRecord}
+use Rattle.move_records.specs.Records.{movesOf, byKinds, recordsAnswer}
+use Rattle.move_records.specs.declared.MoveRecord.{MoveRecord}
 use Rattle.crossing.specs.declared.ValueAnswer.{ValueAnswer}
 use Rattle.gypsumtrot.proofs.RecordLists.{records-settled}
-use Rattle.crossing.proofs.MoveRecord as T
+use Rattle.move_records.proofs.MoveRecord as T
 use Rattle.crossing.proofs.ValueAnswer as E
 use Rattle.crossing.proofs.ValueAnswer.Laws as E′
-use Rattle.crossing.proofs.records.walk_records as walk
-use Rattle.crossing.proofs.records.walk_records.Symbol as walk-def
-use Rattle.crossing.proofs.records.walk_records.Symbol.{name as #walk-records}
-use Rattle.crossing.proofs.records.walk_records.Met as walk-thm
+use Rattle.move_records.proofs.walk_records as walk
+use Rattle.move_records.proofs.walk_records.Symbol as walk-def
+use Rattle.move_records.proofs.walk_records.Symbol.{name as #walk-records}
+use Rattle.move_records.proofs.walk_records.Met as walk-thm
 use Rattle.gypsumtrot.proofs.lists.settle_records as settle
 use Rattle.gypsumtrot.proofs.lists.settle_records.Symbol as settle-def
 use Rattle.gypsumtrot.proofs.lists.settle_records.Symbol.{name as #settle-records}
 use Rattle.gypsumtrot.proofs.lists.settle_records.Met as settle-thm
-use Rattle.crossing.proofs.records.by_kinds as kinds
-use Rattle.crossing.proofs.records.by_kinds.Symbol as kinds-def
-use Rattle.crossing.proofs.records.by_kinds.Symbol.{name as #by-kinds}
-use Rattle.crossing.proofs.records.by_kinds.Met as kinds-thm
+use Rattle.move_records.proofs.by_kinds as kinds
+use Rattle.move_records.proofs.by_kinds.Symbol as kinds-def
+use Rattle.move_records.proofs.by_kinds.Symbol.{name as #by-kinds}
+use Rattle.move_records.proofs.by_kinds.Met as kinds-thm
 use Rattle.gypsumtrot.proofs.lists.gt_moves.Key.{name as #gt-moves}
 use Rattle.gypsumtrot.proofs.lists.gt_moves as f
 use Rattle.gypsumtrot.proofs.lists.gt_moves.Statement as stated
@@ -384,6 +384,6 @@ gt-moves-spec 𝓤 H 𝓜 𝓖 𝓡 =
     (tables 𝓤 H 𝓜 𝓡 code.env .C) (tables 𝓤 H 𝓜 𝓡 code.env .Λ) #gt-moves code.function (code.unfolded 𝓤 H 𝓜 𝓡)
     (meets 𝓤 H (𝓖 .A) (givenOf 𝓤 H 𝓜 𝓖) (𝓜 .mem) (𝓡 .run) (tablesOf 𝓤 H 𝓜 (tables 𝓤 H 𝓜 𝓡 code.env))
     (cited 𝓤 H (Opened 𝓤 H (𝓖 .A) (𝓜 .mem) (𝓡 .run)) 𝓜 𝓡 code.env #opened opened-def.routine code.calls-plan·list·opened (opened-thm.met 𝓤 H 𝓜 𝓖 𝓡))
-    (cited 𝓤 H (Walked 𝓤 H (𝓖 .A) (𝓜 .mem) (𝓡 .run)) 𝓜 𝓡 code.env #walk-records walk-def.routine code.calls-crossing·records·walk-records (walk-thm.met 𝓤 H 𝓜 𝓖 𝓡))
+    (cited 𝓤 H (Walked 𝓤 H (𝓖 .A) (𝓜 .mem) (𝓡 .run)) 𝓜 𝓡 code.env #walk-records walk-def.routine code.calls-move-records·walk-records (walk-thm.met 𝓤 H 𝓜 𝓖 𝓡))
     (cited 𝓤 H (Settled 𝓤 H (𝓖 .A) (𝓜 .mem) (𝓡 .run)) 𝓜 𝓡 code.env #settle-records settle-def.routine code.calls-gypsumtrot·lists·settle-records (settle-thm.met 𝓤 H 𝓜 𝓖 𝓡))
-    (cited 𝓤 H (Told 𝓤 H (𝓖 .A) (𝓜 .mem) (𝓡 .run)) 𝓜 𝓡 code.env #by-kinds kinds-def.routine code.calls-crossing·records·by-kinds (kinds-thm.met 𝓤 H 𝓜 𝓖 𝓡)))
+    (cited 𝓤 H (Told 𝓤 H (𝓖 .A) (𝓜 .mem) (𝓡 .run)) 𝓜 𝓡 code.env #by-kinds kinds-def.routine code.calls-move-records·by-kinds (kinds-thm.met 𝓤 H 𝓜 𝓖 𝓡)))

@@ -39,24 +39,24 @@ use denote.Triple.Spec.{Meets, tripleOf}
 use denote.Triple.Table.{entered, cited}
 use denote.Triple.Clauses.{ensured, lasts}
 use denote.Triple.Walked.{says, Stays, stay-none-slice, stay-none, walkOf as walkTriple, Walks, ends-at, walked, goes-none-slice, goes-none, walk-meets}
 use Rattle.crossing.specs.Crossing.{valuePaper}
-use Rattle.crossing.specs.Records.{byKind, byKinds}
-use Rattle.crossing.specs.declared.MoveRecord.{MoveRecord}
+use Rattle.move_records.specs.Records.{byKind, byKinds}
+use Rattle.move_records.specs.declared.MoveRecord.{MoveRecord}
 use Rattle.crossing.specs.declared.ValueAnswer.{ValueAnswer}
-use Rattle.crossing.proofs.RecordKinds.{offset-fits, noRecord, no-record, by-record}
-use Rattle.crossing.proofs.MoveRecord as T
-use Rattle.crossing.proofs.MoveRecord.Laws as T′
+use Rattle.move_records.proofs.RecordKinds.{offset-fits, noRecord, no-record, by-record}
+use Rattle.move_records.proofs.MoveRecord as T
+use Rattle.move_records.proofs.MoveRecord.Laws as T′
 use Rattle.crossing.proofs.ValueAnswer as S
 use Rattle.crossing.proofs.ValueAnswer.Laws as S′
-use Rattle.crossing.proofs.records.by_kind as step
-use Rattle.crossing.proofs.records.by_kind.Symbol as step-def
-use Rattle.crossing.proofs.records.by_kind.Symbol.{name as #by-kind}
-use Rattle.crossing.proofs.records.by_kind.Met as step-thm
-use Rattle.crossing.proofs.records.by_kinds.Key.{name as #by-kinds}
-use Rattle.crossing.proofs.records.by_kinds as f
-use Rattle.crossing.proofs.records.by_kinds.Statement as stated
-use Rattle.crossing.proofs.records.by_kinds.Code as code
-use Rattle.crossing.proofs.records.by_kinds.Code.Mir as mir
+use Rattle.move_records.proofs.by_kind as step
+use Rattle.move_records.proofs.by_kind.Symbol as step-def
+use Rattle.move_records.proofs.by_kind.Symbol.{name as #by-kind}
+use Rattle.move_records.proofs.by_kind.Met as step-thm
+use Rattle.move_records.proofs.by_kinds.Key.{name as #by-kinds}
+use Rattle.move_records.proofs.by_kinds as f
+use Rattle.move_records.proofs.by_kinds.Statement as stated
+use Rattle.move_records.proofs.by_kinds.Code as code
+use Rattle.move_records.proofs.by_kinds.Code.Mir as mir
 
 abbrev stayed : Stays (f.ended .signature .params) (f.ended .kept)
 stayed = (stay-none-slice (0 ∷ []) tt (plain (λ _. T.the-row)) yes, (stay-none (λ _. S.the-row) yes, tt))
@@ -216,4 +216,4 @@ by-kinds-spec 𝓤 H 𝓜 𝓖 𝓡 =
     entered 𝓤 H (tripleOf 𝓤 H (𝓖 .A) f.signature (f.spec 𝓤 H (𝓖 .A) (𝓜 .mem) (𝓡 .run)))
     (tables 𝓤 H 𝓜 𝓡 code.env .C) (tables 𝓤 H 𝓜 𝓡 code.env .Λ) #by-kinds code.function (code.unfolded 𝓤 H 𝓜 𝓡)
     (meets 𝓤 H (𝓖 .A) (givenOf 𝓤 H 𝓜 𝓖) (𝓜 .mem) (𝓡 .run) (tablesOf 𝓤 H 𝓜 (tables 𝓤 H 𝓜 𝓡 code.env))
-    (cited 𝓤 H (Step 𝓤 H (𝓖 .A) (𝓜 .mem) (𝓡 .run)) 𝓜 𝓡 code.env #by-kind step-def.routine code.calls-crossing·records·by-kind (step-thm.met 𝓤 H 𝓜 𝓖 𝓡)))
+    (cited 𝓤 H (Step 𝓤 H (𝓖 .A) (𝓜 .mem) (𝓡 .run)) 𝓜 𝓡 code.env #by-kind step-def.routine code.calls-move-records·by-kind (step-thm.met 𝓤 H 𝓜 𝓖 𝓡)))

@@ -1,20 +1,38 @@
 // A list of moves as it crosses the C interface: a table of plain records, worked out into a plan.
 ghost use mathlib.Core.Path.{_≡_};
 ghost use Rattle.plan.specs.Plan.{stepOf, walkOf};
 ghost use Rattle.crossing.specs.Crossing.{valuePaper};
-ghost use Rattle.crossing.specs.Records.{moveOf, movesOf, byKind, byKinds};
-use super::MoveRecord;
-use super::NO_SUCH_VERTEX;
-use super::NO_VERTEX;
-use super::PLACE;
-use super::SHIFT;
-use super::STRETCH;
-use super::UNKNOWN_KIND;
-use super::ValueAnswer;
+ghost use Rattle.move_records.specs.Records.{moveOf, movesOf, byKind, byKinds};
+use crossing::ValueAnswer;
 use millimetres::Change;
 use plan::Move;
 use plan::Plan;
 use plan::list::step;
+
+// The kinds of a move.
+pub const PLACE: u32 = 0;
+
+pub const SHIFT: u32 = 1;
+
+pub const STRETCH: u32 = 2;
+
+// The numbers that answer a move of a vertex that is not there, and one of an unknown kind.
+pub const NO_SUCH_VERTEX: u32 = 3;
+
+pub const UNKNOWN_KIND: u32 = 99;
+
+// A vertex that no mesh has.
+pub const NO_VERTEX: u32 = 4294967295;
+
+// One move of one control vertex: its kind, and three numbers in millimetres or factors.
+#[repr(C)]
+pub struct MoveRecord {
+    pub vertex: u32,
+    pub kind: u32,
+    pub x: f64,
+    pub y: f64,
+    pub z: f64,
+}
 
 // The move that a record means; one of an unknown kind is of a vertex that no mesh has.
 fn move_of(item: MoveRecord) -> Move

@@ -53,20 +53,20 @@ use Rattle.plan.specs.Plan.{stepOf, walkOf}
 use Rattle.plan.specs.declared.Plan.{Plan}
 use Rattle.plan.proofs.Plan as S
 use Rattle.plan.proofs.Plan.Laws as S′
-use Rattle.crossing.specs.Records.{moveOf}
-use Rattle.crossing.specs.declared.MoveRecord.{MoveRecord}
-use Rattle.crossing.proofs.RecordKinds.{offset-fits, noRecord}
-use Rattle.crossing.proofs.MoveRecord as T
-use Rattle.crossing.proofs.MoveRecord.Laws as T′
-use Rattle.crossing.proofs.records.step_record as step
-use Rattle.crossing.proofs.records.step_record.Symbol as step-def
-use Rattle.crossing.proofs.records.step_record.Symbol.{name as #step-record}
-use Rattle.crossing.proofs.records.step_record.Met as step-thm
-use Rattle.crossing.proofs.records.walk_records.Key.{name as #walk-records}
-use Rattle.crossing.proofs.records.walk_records as f
-use Rattle.crossing.proofs.records.walk_records.Statement as stated
-use Rattle.crossing.proofs.records.walk_records.Code as code
-use Rattle.crossing.proofs.records.walk_records.Code.Mir as mir
+use Rattle.move_records.specs.Records.{moveOf}
+use Rattle.move_records.specs.declared.MoveRecord.{MoveRecord}
+use Rattle.move_records.proofs.RecordKinds.{offset-fits, noRecord}
+use Rattle.move_records.proofs.MoveRecord as T
+use Rattle.move_records.proofs.MoveRecord.Laws as T′
+use Rattle.move_records.proofs.step_record as step
+use Rattle.move_records.proofs.step_record.Symbol as step-def
+use Rattle.move_records.proofs.step_record.Symbol.{name as #step-record}
+use Rattle.move_records.proofs.step_record.Met as step-thm
+use Rattle.move_records.proofs.walk_records.Key.{name as #walk-records}
+use Rattle.move_records.proofs.walk_records as f
+use Rattle.move_records.proofs.walk_records.Statement as stated
+use Rattle.move_records.proofs.walk_records.Code as code
+use Rattle.move_records.proofs.walk_records.Code.Mir as mir
 
 abbrev stayed : Stays (f.ended .signature .params) (f.ended .kept)
 stayed = (stay-none-slice (0 ∷ []) tt (plain (λ _. T.the-row)) yes, (stay-none-slice (1 ∷ []) tt (plain (λ _. i32)) yes, (stay-none (λ _. S.the-row) yes, tt)))
@@ -305,4 +305,4 @@ walk-records-spec 𝓤 H 𝓜 𝓖 𝓡 =
     entered 𝓤 H (tripleOf 𝓤 H (𝓖 .A) f.signature (f.spec 𝓤 H (𝓖 .A) (𝓜 .mem) (𝓡 .run)))
     (tables 𝓤 H 𝓜 𝓡 code.env .C) (tables 𝓤 H 𝓜 𝓡 code.env .Λ) #walk-records code.function (code.unfolded 𝓤 H 𝓜 𝓡)
     (meets 𝓤 H (𝓖 .A) (givenOf 𝓤 H 𝓜 𝓖) (𝓜 .mem) (𝓡 .run) (tablesOf 𝓤 H 𝓜 (tables 𝓤 H 𝓜 𝓡 code.env))
-    (cited 𝓤 H (Step 𝓤 H (𝓖 .A) (𝓜 .mem) (𝓡 .run)) 𝓜 𝓡 code.env #step-record step-def.routine code.calls-crossing·records·step-record (step-thm.met 𝓤 H 𝓜 𝓖 𝓡)))
+    (cited 𝓤 H (Step 𝓤 H (𝓖 .A) (𝓜 .mem) (𝓡 .run)) 𝓜 𝓡 code.env #step-record step-def.routine code.calls-move-records·step-record (step-thm.met 𝓤 H 𝓜 𝓖 𝓡)))

@@ -11,7 +11,7 @@ use Rattle.rings.specs.Paper.{paperAmount}
 use Rattle.moves.specs.Apply.{applyAnswer}
 use Rattle.millimetres.specs.declared.Change.the-variants.{Place, Shift, Stretch}
 use Rattle.plan.specs.declared.Move.{Move}
-use Rattle.crossing.specs.declared.MoveRecord.{MoveRecord}
+use Rattle.move_records.specs.declared.MoveRecord.{MoveRecord}
 
 -- the move that a record means: kind 0 is a placing, 1 a shift, 2 a stretch; one of an unknown kind is of a vertex that no mesh has, so that the list is refused at its place
 unfoldable pub moveOf : MoveRecord → Move

@@ -1,8 +1,8 @@
 -- `by_kind` meets its contract. Assumes nothing.
 use Rattle.crossing.specs.Crossing.{valuePaper}
-use Rattle.crossing.proofs.RecordKinds.{known-kind, unknown-kind, another-number}
-use Rattle.crossing.proofs.records.by_kind.Statement.{statement}
-use Rattle.crossing.proofs.records.by_kind.Tie as tie
+use Rattle.move_records.proofs.RecordKinds.{known-kind, unknown-kind, another-number}
+use Rattle.move_records.proofs.by_kind.Statement.{statement}
+use Rattle.move_records.proofs.by_kind.Tie as tie
 
 returns : tie.Need-returns
 returns c = let a = c .before .before .before .before .args in unknown-kind (a .item .kind) (valuePaper (a .answer)) (c .before .before .if1 .taken) (c .if2 .taken)

@@ -2,8 +2,8 @@
 use mathlib.Core.Path.{ap, _∙_}
 use denote.Ref.{now}
 use borrow.Author.Needs.{needs}
-use Rattle.crossing.proofs.records.step_record.Statement.{statement}
-use Rattle.crossing.proofs.records.step_record.Tie as tie
+use Rattle.move_records.proofs.step_record.Statement.{statement}
+use Rattle.move_records.proofs.step_record.Tie as tie
 use Rattle.plan.specs.Plan.{stepOf}
 
 move-of-requires : tie.Need-move-of-requires

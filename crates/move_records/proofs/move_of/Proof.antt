@@ -1,7 +1,7 @@
 -- `move_of` meets its contract. Assumes nothing.
-use Rattle.crossing.proofs.RecordKinds.{a-placing, a-shift, a-stretch, no-known-kind}
-use Rattle.crossing.proofs.records.move_of.Statement.{statement}
-use Rattle.crossing.proofs.records.move_of.Tie as tie
+use Rattle.move_records.proofs.RecordKinds.{a-placing, a-shift, a-stretch, no-known-kind}
+use Rattle.move_records.proofs.move_of.Statement.{statement}
+use Rattle.move_records.proofs.move_of.Tie as tie
 
 returns : tie.Need-returns
 returns c = a-placing (c .before .before .args .item) (c .if1 .taken)

@@ -11,8 +11,8 @@ use Rattle.rings.specs.Refusal.{Paper, refused}
 use Rattle.millimetres.specs.declared.Change.{Change}
 use Rattle.millimetres.specs.declared.Change.the-variants.{Place, Shift, Stretch}
 use Rattle.plan.specs.declared.Move.{Move}
-use Rattle.crossing.specs.Records.{moveOf, byKind, byKinds}
-use Rattle.crossing.specs.declared.MoveRecord.{MoveRecord}
+use Rattle.move_records.specs.Records.{moveOf, byKind, byKinds}
+use Rattle.move_records.specs.declared.MoveRecord.{MoveRecord}
 
 module _ (r : MoveRecord) where
   abbrev of : ℕ → Change → Move

@@ -1,0 +1,2 @@
+-- Laws on the records' kinds.
+pub mod RecordKinds

@@ -1,0 +1,2 @@
+-- Moves as they cross the C interface.
+pub mod Records
