@@ -2,7 +2,6 @@
 ghost use mathlib.Core.Path.{_≡_};
 ghost use Rattle.file_reading.specs.Read.{readAnswer, readValences, readRings, readPositions};
 
-pub mod ring;
 pub mod rows;
 
 use self::rows::read_rows;

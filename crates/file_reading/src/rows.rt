@@ -8,7 +8,7 @@ ghost use Rattle.rings.specs.Table.{valenceRows, ringRows, pointRows};
 ghost use Rattle.meshfile.specs.Layout.{fileRing, filePoint, rowAt};
 ghost use Rattle.meshfile.specs.Judging.{Rows};
 ghost use Rattle.meshfile.specs.Blocks.{Put};
-use super::ring::read_ring;
+use file_rings::reading::read_ring;
 use meshfile::bytes::coordinate_at;
 use meshfile::bytes::two_at;
 use meshfile::layout::place_after;

@@ -3,7 +3,6 @@ use Prim.Native.Nat.{ℕ, zero, suc, _+_, _*_, _≤_, _<_}
 use mathlib.Core.Path.{_≡_, refl, sym, ap, _∙_}
 use mathlib.Core.Bool.{Bool, true, false}
 use mathlib.Core.List.{List, [], _++_}
-use native.Mathlib.Nat.{add-zero}
 use native.Mathlib.Numerals.{add-one}
 use native.Mathlib.Omega.{arith}
 use borrow.Author.Tests.{lt-ltb, le-ltb, ltb-false}
@@ -24,24 +23,18 @@ use Rattle.rings.specs.declared.Verdict.the-variants.{Accepted, Refused}
 use Rattle.rings.specs.declared.Amount.{Amount}
 use Rattle.rings.specs.declared.Amount.the-variants as amount
 use Rattle.rings.specs.declared.Amount.the-variants.{Of}
-use Rattle.rings.proofs.Tables.{length-gather}
 use Rattle.rings.proofs.Rows.{row-length, room-row}
 use Rattle.rings.proofs.Checks.{long-tables}
 use Rattle.rings.proofs.Verdicts.{if-hit, if-pass, at-hit, at-pass}
 use Rattle.meshfile.specs.Bytes.{bytesOf, bitsOf, recordOf}
-use Rattle.meshfile.specs.Blocks.{Put, gatherFrom}
-use Rattle.file_writing.specs.Write.{neighbourBytes, payloadOf, rowBytes, fileOf, rowsLength, overMost, writeVerdict, writeAnswer, writeRoom}
+use Rattle.meshfile.specs.Blocks.{Put}
+use Rattle.file_rings.specs.Neighbours.{neighbourBytes}
+use Rattle.file_rings.proofs.RingWritten.{length-neighbour-bytes}
+use Rattle.file_writing.specs.Write.{payloadOf, rowBytes, fileOf, rowsLength, overMost, writeVerdict, writeAnswer, writeRoom}
 use Rattle.file_writing.specs.Storing.{pointBytes, Stored}
-use Rattle.meshfile.proofs.Gathered.{length-from}
 use Rattle.meshfile.proofs.Blocks.{then, put-is}
 
 -- ---- lengths
-
-pub length-neighbour-bytes : (ring : List ℕ) (n : ℕ) → length (gather (neighbourBytes ring) n) ≡ n * 2
-length-neighbour-bytes ring n = length-gather (neighbourBytes ring) 2 (λ i. refl) n
-
-pub length-part-bytes : (ring : List ℕ) (e n : ℕ) → length (gatherFrom (neighbourBytes ring) e n) ≡ n * 2
-length-part-bytes ring e n = length-from (neighbourBytes ring) 2 (λ i. refl) e n
 
 pub length-payload : (ring : List ℕ) (point : ℕ → ℤ) → length (payloadOf ring point) ≡ 14 + 2 * length ring
 unfolding payloadOf
@@ -98,13 +91,6 @@ module _ (vs rs : List ℕ) (ps : List ℤ) (v : ℕ) {r : List ℕ} (e : r ≡ 
       let x : Put l at (recordOf 2 (payloadOf r (λ axis. coordinateAt ps axis v))) m₄ =
       put-is (ap (λ (k : ℕ). bytesOf 4 k ++ (bytesOf 2 2 ++ payloadOf r (λ axis. coordinateAt ps axis v))) d) w in
       put-is (ap (λ (x : List ℕ). recordOf 2 (payloadOf x (λ axis. coordinateAt ps axis v))) e) x
-
--- four neighbours
-pub four-put : {l m₁ m₂ m₃ m₄ : List ℕ} {k : ℕ} (ring : List ℕ) (i : ℕ) → Put l k (bytesOf 2 (getD ring i 0)) m₁ → Put m₁ (k + 2) (bytesOf 2 (getD ring (i + 1) 0)) m₂ → Put m₂ (k + 4) (bytesOf 2 (getD ring (i + 2) 0)) m₃
-    → Put m₃ (k + 6) (bytesOf 2 (getD ring (i + 3) 0)) m₄ → Put l k (gatherFrom (neighbourBytes ring) i 4) m₄
-unfolding gatherFrom
-four-put ring i p q r s =
-    then (then (then (put-is (ap (λ (j : ℕ). bytesOf 2 (getD ring j 0)) (sym (add-zero i))) p) q refl) r refl) s refl
 
 -- ---- all rows
 

@@ -16,10 +16,7 @@ use Rattle.rings.specs.declared.Verdict.{Verdict}
 use Rattle.rings.specs.declared.Verdict.the-variants.{Accepted}
 use Rattle.rings.specs.declared.Amount.{Amount}
 use Rattle.meshfile.specs.Bytes.{bytesOf, bitsOf, recordOf}
-
--- neighbour i of a ring
-abbrev pub neighbourBytes : List ℕ → ℕ → List ℕ
-neighbourBytes ring i = bytesOf 2 (getD ring i 0)
+use Rattle.file_rings.specs.Neighbours.{neighbourBytes}
 
 -- the payload of a row: three coordinates in four bytes each, the valence in two, and the neighbours in two each
 unfoldable pub payloadOf : List ℕ → (ℕ → ℤ) → List ℕ

@@ -6,7 +6,6 @@ ghost use Rattle.mesh.specs.Limits.{mostCount};
 ghost use Rattle.mesh.specs.Search.{first};
 ghost use Rattle.file_writing.specs.Write.{rowsLength, overMost, writeAnswer, writeRoom};
 
-pub mod ring;
 pub mod rows;
 
 use self::rows::put_head;

@@ -11,7 +11,7 @@ ghost use Rattle.meshfile.specs.Bytes.{bytesOf, bitsOf};
 ghost use Rattle.meshfile.specs.Blocks.{Put};
 ghost use Rattle.file_writing.specs.Write.{rowBytes, rowsLength};
 ghost use Rattle.file_writing.specs.Storing.{pointBytes, Stored};
-use super::ring::put_ring;
+use file_rings::writing::put_ring;
 use meshfile::ROW;
 use meshfile::bytes::bits_of;
 use meshfile::bytes::put_four;

@@ -22,10 +22,11 @@ use Rattle.rings.proofs.Verdicts.{if-accepted, then-accepted, if-clear, at-clea
 use Rattle.meshfile.specs.Bytes.{bytesOf, bitsOf, coordinateOf, recordOf, numberAt, lengthAt, kindAt}
 use Rattle.meshfile.specs.Layout.{fileCount, rowAt, fileValence, fileRing, filePoint, isFirst, isLast, fileVerdict}
 use Rattle.file_reading.specs.Read.{readVerdict, readAnswer, readValences, readRings, readPositions}
-use Rattle.file_writing.specs.Write.{neighbourBytes, payloadOf, rowBytes, fileOf, overMost, writeVerdict, writeAnswer, writeRoom}
+use Rattle.file_rings.specs.Neighbours.{neighbourBytes}
+use Rattle.file_writing.specs.Write.{payloadOf, rowBytes, fileOf, overMost, writeVerdict, writeAnswer, writeRoom}
 use Rattle.meshfile.proofs.Finding.{record-kind, record-length, record-fits}
 use Rattle.meshfile.proofs.Judging.{IsRow, row-is, first-after, Good, good}
-use Rattle.file_reading.proofs.RowsRead.{length-ring}
+use Rattle.file_rings.proofs.RingRead.{length-ring}
 use Rattle.file_writing.proofs.RowsWritten.{length-payload}
 use Rattle.meshfile.proofs.Gathered.{gather-one, length-rows-below}
 use Rattle.round_trips.proofs.Inverse.{four-lt, bits-coordinate}

@@ -19,11 +19,13 @@ use Rattle.rings.proofs.Verdicts.{if-clear, at-clear}
 use Rattle.meshfile.specs.Bytes.{bytesOf, numberOf, bitsOf, coordinateOf, recordOf, numberAt, lengthAt, kindAt, afterAt}
 use Rattle.meshfile.specs.Layout.{fileCount, rowAt, fileValence, fileRing, filePoint, recordAt, isFirst, isRow, isLast, fileVerdict}
 use Rattle.meshfile.specs.Judging.{noRow}
-use Rattle.file_writing.specs.Write.{neighbourBytes, payloadOf, rowBytes, fileOf}
+use Rattle.file_rings.specs.Neighbours.{neighbourBytes}
+use Rattle.file_writing.specs.Write.{payloadOf, rowBytes, fileOf}
 use Rattle.meshfile.proofs.Signed.{bits-lt, coordinate-bits}
 use Rattle.meshfile.proofs.Finding.{record-is}
 use Rattle.meshfile.proofs.Judging.{last, tail, all}
-use Rattle.file_writing.proofs.RowsWritten.{length-neighbour-bytes, length-payload, length-row, length-file, length-rows}
+use Rattle.file_rings.proofs.RingWritten.{length-neighbour-bytes}
+use Rattle.file_writing.proofs.RowsWritten.{length-payload, length-row, length-file, length-rows}
 use Rattle.meshfile.proofs.Gathered.{gather-split, gather-drop, gather-all}
 use Rattle.rings.proofs.Tables.{gather-same}
 use Rattle.round_trips.proofs.Inverse.{number-bytes-two, number-bytes-four, number-from, number-here}

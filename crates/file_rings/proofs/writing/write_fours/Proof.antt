@@ -5,11 +5,11 @@ use native.Mathlib.Omega.{arith}
 use borrow.Author.Needs.{needs}
 use lib.ListN.{length}
 use Rattle.meshfile.specs.Blocks.{Put, gatherFrom}
-use Rattle.file_writing.specs.Write.{neighbourBytes}
+use Rattle.file_rings.specs.Neighbours.{neighbourBytes}
 use Rattle.meshfile.proofs.Blocks.{from-none, put-is, from-next}
-use Rattle.file_writing.proofs.RowsWritten.{length-part-bytes}
-use Rattle.file_writing.proofs.ring.write_fours.Statement.{statement}
-use Rattle.file_writing.proofs.ring.write_fours.Tie as tie
+use Rattle.file_rings.proofs.RingWritten.{length-part-bytes}
+use Rattle.file_rings.proofs.writing.write_fours.Statement.{statement}
+use Rattle.file_rings.proofs.writing.write_fours.Tie as tie
 
 abbrev Inv-loop : tie.InvT-loop
 Inv-loop file₀ at ring i₀ file i =

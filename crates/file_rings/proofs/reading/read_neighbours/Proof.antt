@@ -5,8 +5,8 @@ use native.Mathlib.Omega.{arith}
 use mathlib.Core.Path.{refl}
 use Rattle.meshfile.specs.Layout.{neighbourAt}
 use Rattle.meshfile.proofs.Blocks.{by-fours}
-use Rattle.file_reading.proofs.ring.read_neighbours.Statement.{statement}
-use Rattle.file_reading.proofs.ring.read_neighbours.Tie as tie
+use Rattle.file_rings.proofs.reading.read_neighbours.Statement.{statement}
+use Rattle.file_rings.proofs.reading.read_neighbours.Tie as tie
 
 read-each-requires : tie.Need-read-each-requires
 read-each-requires c κs = search needs

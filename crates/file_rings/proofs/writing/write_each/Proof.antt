@@ -6,11 +6,11 @@ use native.Mathlib.Omega.{arith}
 use lib.ListN.{length}
 use Rattle.rings.specs.Table.{gather}
 use Rattle.meshfile.specs.Blocks.{Put}
-use Rattle.file_writing.specs.Write.{neighbourBytes}
+use Rattle.file_rings.specs.Neighbours.{neighbourBytes}
 use Rattle.meshfile.proofs.Blocks.{rows-none, rows-next, rows-all}
-use Rattle.file_writing.proofs.RowsWritten.{length-neighbour-bytes}
-use Rattle.file_writing.proofs.ring.write_each.Statement.{statement}
-use Rattle.file_writing.proofs.ring.write_each.Tie as tie
+use Rattle.file_rings.proofs.RingWritten.{length-neighbour-bytes}
+use Rattle.file_rings.proofs.writing.write_each.Statement.{statement}
+use Rattle.file_rings.proofs.writing.write_each.Tie as tie
 
 abbrev Inv-loop : tie.InvT-loop
 Inv-loop file₀ at ring i₀ file i = (i ≤ length ring) × ((length file ≡ length file₀) × Put file₀ at (gather (neighbourBytes ring) i) file)

@@ -2,9 +2,9 @@
 use Prim.Native.Nat.{_+_}
 use native.Mathlib.Omega.{arith}
 use borrow.Author.Needs.{needs}
-use Rattle.file_writing.proofs.RowsWritten.{four-put}
-use Rattle.file_writing.proofs.ring.write_four.Statement.{statement}
-use Rattle.file_writing.proofs.ring.write_four.Tie as tie
+use Rattle.file_rings.proofs.RingWritten.{four-put}
+use Rattle.file_rings.proofs.writing.write_four.Statement.{statement}
+use Rattle.file_rings.proofs.writing.write_four.Tie as tie
 
 mul-a : tie.Need-mul-a
 mul-a c = search needs

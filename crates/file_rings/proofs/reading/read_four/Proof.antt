@@ -2,9 +2,9 @@
 use native.Mathlib.Omega.{arith}
 use borrow.Author.Needs.{needs}
 use lib.ListN.{length-set}
-use Rattle.file_reading.proofs.RowsRead.{four-read}
-use Rattle.file_reading.proofs.ring.read_four.Statement.{statement}
-use Rattle.file_reading.proofs.ring.read_four.Tie as tie
+use Rattle.file_rings.proofs.RingRead.{four-read}
+use Rattle.file_rings.proofs.reading.read_four.Statement.{statement}
+use Rattle.file_rings.proofs.reading.read_four.Tie as tie
 
 mul-at : tie.Need-mul-at
 mul-at c = search needs

@@ -7,9 +7,9 @@ use lib.ListN.{length}
 use Rattle.meshfile.specs.Layout.{neighbourAt}
 use Rattle.meshfile.specs.Blocks.{Put, gatherFrom}
 use Rattle.meshfile.proofs.Blocks.{from-none, put-length, put-is, from-next}
-use Rattle.file_reading.proofs.RowsRead.{length-part}
-use Rattle.file_reading.proofs.ring.read_fours.Statement.{statement}
-use Rattle.file_reading.proofs.ring.read_fours.Tie as tie
+use Rattle.file_rings.proofs.RingRead.{length-part}
+use Rattle.file_rings.proofs.reading.read_fours.Statement.{statement}
+use Rattle.file_rings.proofs.reading.read_fours.Tie as tie
 
 abbrev Inv-loop : tie.InvT-loop
 Inv-loop bytes from rings₀ to n i₀ rings i =

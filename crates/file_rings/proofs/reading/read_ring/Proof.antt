@@ -1,9 +1,9 @@
 -- `read_ring` meets its contract. Assumes nothing.
 use borrow.Author.Needs.{needs}
 use mathlib.Core.Path.{refl}
-use Rattle.file_reading.proofs.RowsRead.{row-cleared, ring-padded}
-use Rattle.file_reading.proofs.ring.read_ring.Statement.{statement}
-use Rattle.file_reading.proofs.ring.read_ring.Tie as tie
+use Rattle.file_rings.proofs.RingRead.{row-cleared, ring-padded}
+use Rattle.file_rings.proofs.reading.read_ring.Statement.{statement}
+use Rattle.file_rings.proofs.reading.read_ring.Tie as tie
 
 write-unused-requires : tie.Need-write-unused-requires
 write-unused-requires c κs = search needs

@@ -4,9 +4,9 @@ use native.Mathlib.Omega.{arith}
 use mathlib.Core.Path.{refl}
 use lib.ListN.{length}
 use Rattle.meshfile.proofs.Blocks.{by-fours}
-use Rattle.file_writing.specs.Write.{neighbourBytes}
-use Rattle.file_writing.proofs.ring.put_ring.Statement.{statement}
-use Rattle.file_writing.proofs.ring.put_ring.Tie as tie
+use Rattle.file_rings.specs.Neighbours.{neighbourBytes}
+use Rattle.file_rings.proofs.writing.put_ring.Statement.{statement}
+use Rattle.file_rings.proofs.writing.put_ring.Tie as tie
 
 write-each-requires : tie.Need-write-each-requires
 write-each-requires c κs = search needs

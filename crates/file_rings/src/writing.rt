@@ -3,7 +3,7 @@ ghost use Prim.Native.Nat.{_+_, _-_, _*_, _/_, _≤_};
 ghost use lib.ListN.{length};
 ghost use Rattle.rings.specs.Table.{gather};
 ghost use Rattle.meshfile.specs.Blocks.{Put, gatherFrom};
-ghost use Rattle.file_writing.specs.Write.{neighbourBytes};
+ghost use Rattle.file_rings.specs.Neighbours.{neighbourBytes};
 use meshfile::bytes::put_two;
 
 // Four neighbours, from the i-th on. All are fetched before the first is written.

@@ -8,9 +8,9 @@ use Rattle.rings.specs.Table.{gather}
 use Rattle.meshfile.specs.Layout.{neighbourAt}
 use Rattle.meshfile.specs.Blocks.{Put}
 use Rattle.meshfile.proofs.Blocks.{rows-none, rows-next, rows-all}
-use Rattle.file_reading.proofs.RowsRead.{length-neighbours, one-is}
-use Rattle.file_reading.proofs.ring.read_each.Statement.{statement}
-use Rattle.file_reading.proofs.ring.read_each.Tie as tie
+use Rattle.file_rings.proofs.RingRead.{length-neighbours, one-is}
+use Rattle.file_rings.proofs.reading.read_each.Statement.{statement}
+use Rattle.file_rings.proofs.reading.read_each.Tie as tie
 
 abbrev Inv-loop : tie.InvT-loop
 Inv-loop bytes from rings₀ to n i₀ rings i = (i ≤ n) × ((length rings ≡ length rings₀) × Put rings₀ to (gather (neighbourAt bytes from) i) rings)

@@ -1,0 +1,3 @@
+-- Laws of reading and of writing a ring.
+pub mod RingRead
+pub mod RingWritten

@@ -1,0 +1,2 @@
+-- A ring in the bytes of a mesh file.
+pub mod Neighbours
