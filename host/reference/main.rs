@@ -12,7 +12,9 @@ mod document;
 mod examples;
 mod format;
 mod meshes;
+mod move_cases;
 mod random;
+mod tables;
 
 use std::io::{Read, Write};
 

@@ -2,5 +2,6 @@
 pub mod StackAsRefined
 pub mod RefinedIsNotStrange
 pub mod QuickLevel
+pub mod Climbs
 pub mod StackRows
 pub mod Sweep
