@@ -40,12 +40,13 @@ pub fn open_up(row: &mut [u16], n: usize, i: usize, x: u16)
 {
     let mut carry = x;
     let mut k = i;
-    while k <= n {
+    while k < n {
         let shifted = row[k];
         row[k] = carry;
         carry = shifted;
         k += 1;
     }
+    row[n] = carry;
     pad(row, n + 1);
 }
 
