@@ -42,12 +42,14 @@ pub record Cases : Type 0 where
   pub ring9 : refine (meshOf tetrahedron) .ring 9 ≡ 2 ∷ 7 ∷ 8 ∷ 3 ∷ 6 ∷ 5 ∷ []
   -- 4: "14 points written of 24; old vertex 5 and the four edges at 5 aren't"
   pub octahedron14 : touchedCount (loop (meshOf octahedron)) (eqb 0) 2 ≡ 14
+  pub counts24 : paperCounted (refineAnswer 6 1 (roomy (valencesOf octahedron)) (roomy (tableOf octahedron)) (roomy (roomy corners))) ≡ accepted 18 48 32
   pub notTouched : map (touched (loop (meshOf octahedron)) (eqb 0) 1) (5 ∷ 12 ∷ 14 ∷ 16 ∷ 17 ∷ []) ≡ false ∷ false ∷ false ∷ false ∷ false ∷ []
   -- 5: "T, same move of 1: all 10 of level 1 and one control point, 11"
   pub tetrahedron11 : touchedCount (loop (meshOf tetrahedron)) (eqb 1) 2 ≡ 11
   -- the same two as whole calls on the refined stack, with the map: bit 1 and bits 4 to 13
   pub moved14 : paperAmount (onRefined applyAnswer octahedron (roomy (roomy corners)) (move0 ∷ [])) ≡ accepted 14 0 0
   pub moved11 : paperAmount (onRefined applyAnswer tetrahedron (roomy corners) (move1 ∷ [])) ≡ accepted 11 0 0
+  pub mapped14 : onRefined applyMap octahedron (roomy (roomy corners)) (move0 ∷ []) ≡ 2881473 ∷ []
   pub mapped11 : onRefined applyMap tetrahedron (roomy corners) (move1 ∷ []) ≡ 16370 ∷ []
   -- 6: "Placing 0.1 from anywhere: 102; a shift of 0.1 after it: 204; placing 0.2: 205"
   pub placed : (p : Mm) → movedTo p (Place tenth tenth tenth) ≡ At (diagonal (pos 102))
@@ -56,6 +58,7 @@ pub record Cases : Type 0 where
   -- 7, where 1/2048 and the float after 1024.0 are 1 * 2 ^ -11 and (2 ^ 52 + 1) * 2 ^ -42: "1/2048 mm gives 1, -1/2048 gives 0; 1024.0 is in, the next float is 14"
   pub small : (p : Mm) → movedTo p (Place (fin false 1 (negsuc 10)) (fin true 1 (negsuc 10)) (fin false 1 (pos 10))) ≡ At (record { x = pos 1; y = pos 0; z = pos 1048576 })
   pub nextOut : (p : Mm) → movedTo p (Place tenth tenth (fin false (2 ^ 52 + 1) (negsuc 41))) ≡ Outside
+  pub out14 : paperAmount (onRefined applyAnswer tetrahedron (roomy corners) (record { vertex = 0; change = Place tenth tenth (fin false (2 ^ 52 + 1) (negsuc 41)) } ∷ [])) ≡ refused 14 0 0
   -- 8: "T with ring 1 as 0 2 3: 6. T with 0 missing from ring 1: valence 2, so 4"
   pub twisted : paperCounted (checkAnswer 4 (valencesOf tetrahedron) (tableOf (tetrahedronWith (0 ∷ 2 ∷ 3 ∷ []))) corners) ≡ refused 6 0 0
   pub torn : paperCounted (checkAnswer 4 (valencesOf (tetrahedronWith (3 ∷ 2 ∷ []))) (tableOf (tetrahedronWith (3 ∷ 2 ∷ []))) corners) ≡ refused 4 1 0

@@ -1,6 +1,6 @@
 -- The positions after an accepted list of moves, vertex by vertex: the moved control points, and each level refreshed. Assumes nothing.
-use Prim.Native.Nat.{ℕ, zero, suc, _+_, _*_, _≤_, _<_}
-use mathlib.Core.Path.{_≡_, refl, sym, ap, _∙_}
+use Prim.Native.Nat.{ℕ, zero, suc, _+_, _*_, _/_, _%_, _≤_, _<_}
+use mathlib.Core.Path.{_≡_, refl, sym, ap, subst, _∙_}
 use mathlib.Core.Bool.{false}
 use mathlib.Core.List.{List}
 use native.Mathlib.Nat.{zero-add}
@@ -138,9 +138,19 @@ module _ (n levels : ℕ) (vs rs : List ℕ) (ps : List ℤ) (map : List ℕ) (m
     control-after axis b v g =
         ap (λ (j : ℕ). coordinateAt (applyPositions n levels vs rs ps map ms) axis j) (sym (zero-add v)) ∙ at-sum axis b 0 v (omega arith) g
 
+    control-in : n ≤ sum size (suc levels)
+    control-in = omega (arith, start-is n levels vs rs ps stack-accepted (suc levels), control-first n (edges M) levels)
+
+    kept-behind : (p : ℕ) → sum size (suc levels) * 3 ≤ p → getD control p (pos 0) ≡ getD ps p (pos 0)
+    unfolding coordinateAt
+    kept-behind p h =
+        let c = control-in in
+        let e : p / 3 * 3 + p % 3 ≡ p = omega arith in
+        subst (λ (j : ℕ). getD control j (pos 0) ≡ getD ps j (pos 0)) e (kept-above (p % 3) (omega arith) (p / 3) (omega arith))
+
     -- what lies behind the stack stays
-    pub behind-stays : (p : ℕ) → sum size (suc levels) * 3 ≤ p → getD (applyPositions n levels vs rs ps map ms) p (pos 0) ≡ getD control p (pos 0)
-    behind-stays p h = ap (λ (t : List ℤ). getD t p (pos 0)) positions-are ∙ position-behind n vs rs (named ms) control levels room p h
+    pub behind-stays : (p : ℕ) → sum size (suc levels) * 3 ≤ p → getD (applyPositions n levels vs rs ps map ms) p (pos 0) ≡ getD ps p (pos 0)
+    behind-stays p h = ap (λ (t : List ℤ). getD t p (pos 0)) positions-are ∙ position-behind n vs rs (named ms) control levels room p h ∙ kept-behind p h
 
     -- the table keeps its length
     pub after-length : length (applyPositions n levels vs rs ps map ms) ≡ length ps

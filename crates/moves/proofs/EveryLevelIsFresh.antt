@@ -29,23 +29,9 @@ use Rattle.stack_judge.proofs.AcceptedStack.{stack-only}
 use Rattle.refine.proofs.StackLevels.{start-is, level-part, coordinate-at}
 use Rattle.plan.specs.Moves.{named}
 use Rattle.moves.specs.Apply.{applyVerdict, movedControl, applyPositions}
+use Rattle.moves.specs.Fresh.{Fresh, ListCall, afterCalls}
 use Rattle.plan.specs.declared.Move.{Move}
 use Rattle.moves.proofs.AfterList.{heldAt, refused-keeps, stack-accepted, control-changes, after-list, control-after}
-
--- every coordinate of levels 0 to L is what refining the control points gives
-pub record Fresh (n levels : ℕ) (vs rs : List ℕ) (ps : List ℤ) : Type 0 where
-  pub fresh : (axis : ℕ) → axis < 3 → (k x : ℕ) → k ≤ levels → x < level (rows n vs rs) k .count
-      → coordinateAt ps axis (levelStart n (edges (rows n vs rs)) k + x) ≡ refined (loop (rows n vs rs)) (coordinateAt ps axis) k x
-
--- one call with a list: the map it is lent, and the moves
-pub record Call : Type 0 where
-  pub map : List ℕ
-  pub moves : List Move
-
--- the positions after several calls
-abbrev pub afterCalls : ℕ → ℕ → List ℕ → List ℕ → List Call → List ℤ → List ℤ
-afterCalls n levels vs rs [] ps = ps
-afterCalls n levels vs rs (c ∷ cs) ps = afterCalls n levels vs rs cs (applyPositions n levels vs rs ps (c .map) (c .moves))
 
 -- ---- the steps
 
@@ -117,13 +103,13 @@ module _ (n levels : ℕ) (vs rs : List ℕ) (ps : List ℤ) where
 -- ---- the theorem
 
 -- lists of moves keep fresh tables fresh
-pub calls-keep-fresh : (n levels : ℕ) (vs rs : List ℕ) (cs : List Call) (ps : List ℤ) → Fresh n levels vs rs ps → Fresh n levels vs rs (afterCalls n levels vs rs cs ps)
+pub calls-keep-fresh : (n levels : ℕ) (vs rs : List ℕ) (cs : List ListCall) (ps : List ℤ) → Fresh n levels vs rs ps → Fresh n levels vs rs (afterCalls n levels vs rs cs ps)
 calls-keep-fresh n levels vs rs [] ps f = f
 calls-keep-fresh n levels vs rs (c ∷ cs) ps f =
     calls-keep-fresh n levels vs rs cs (applyPositions n levels vs rs ps (c .map) (c .moves)) (list-keeps-fresh n levels vs rs ps (c .map) (c .moves) f)
 
 -- after an accepted refinement and any lists of moves every level is what a fresh refinement gives
-pub every-level-is-fresh : (n levels : ℕ) (vs rs : List ℕ) (ps : List ℤ) → stackVerdict n levels vs rs ps ≡ Accepted → (cs : List Call)
+pub every-level-is-fresh : (n levels : ℕ) (vs rs : List ℕ) (ps : List ℤ) → stackVerdict n levels vs rs ps ≡ Accepted → (cs : List ListCall)
     → Fresh n levels (refineValences n levels vs rs ps) (refineRings n levels vs rs ps)
     (afterCalls n levels (refineValences n levels vs rs ps) (refineRings n levels vs rs ps) cs (refinePositions n levels vs rs ps))
 every-level-is-fresh n levels vs rs ps e cs =

@@ -1,6 +1,7 @@
 -- Demand 3; then the laws on lists of moves and on the stack after them.
 pub mod EveryLevelIsFresh
 pub mod MapShowsTouched
+pub mod RefiningAgain
 -- laws
 pub mod ControlPoints
 pub mod AfterList

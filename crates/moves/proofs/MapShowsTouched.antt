@@ -2,23 +2,24 @@
 -- and what it answers is their number: the ones in the map (section "Moves").
 -- Assumes nothing.
 use Prim.Native.Nat.{ℕ, _+_, _*_, _≤_, _<_}
-use mathlib.Core.Path.{_≡_, sym, ap, ap₂, _∙_}
-use mathlib.Core.Bool.{_&&_}
-use mathlib.Core.List.{List}
+use mathlib.Core.Path.{_≡_, refl, sym, ap, ap₂, _∙_}
+use mathlib.Core.Bool.{false, _&&_}
+use mathlib.Core.List.{List, [], _∷_}
 use native.Mathlib.Omega.{arith}
 use lib.Dec.{ltb}
 use lib.IntN.{ℤ}
-use lib.ListN.{length}
+use lib.ListN.{length, getD}
 use borrow.Author.Tests.{lt-ltb, le-ltb}
 use Rattle.mesh.specs.Mesh.{Mesh, edges}
 use Rattle.mesh.specs.Refine.{level}
 use Rattle.mesh.specs.Mask.{touched}
 use Rattle.mesh.specs.Loop.{loop}
 use Rattle.rings.specs.Table.{put, rows}
+use Rattle.rings.proofs.Tables.{put-behind, length-gather}
 use Rattle.rings.specs.Verdict.{after, withAmount}
 use Rattle.rings.specs.declared.Verdict.the-variants.{Accepted}
 use Rattle.rings.specs.declared.Amount.the-variants.{Of}
-use Rattle.map.specs.Map.{marked, wordCount, mapWords, onesIn, Words}
+use Rattle.map.specs.Map.{marked, wordCount, word, mapWords, onesIn, Words}
 use Rattle.map.proofs.Bits.{members-same}
 use Rattle.map.proofs.Sets.{ones-members, words-after, marked-first}
 use Rattle.stack_judge.specs.Stack.{levelStart, stackCount}
@@ -63,6 +64,18 @@ module _ (n levels : ℕ) (vs rs : List ℕ) (ps : List ℤ) (map : List ℕ) (m
       let s = in-stack k x l h in
       let b = s .0 in
       marks (levelStart n (edges M) k + x) (omega arith) ∙ rw (lt-ltb (levelStart n (edges M) k + x) W b) (s .1)
+
+  -- spare bits of the last word are zero
+  pub spare-bits-are-zero : (i : ℕ) → W ≤ i → i < wordCount W * 32 → marked (applyMap n levels vs rs ps map ms) i ≡ false
+  spare-bits-are-zero i l h = marks i h ∙ rw (le-ltb i W l)
+
+  -- later words stay
+  pub later-words-stay : (w : ℕ) → wordCount W ≤ w → getD (applyMap n levels vs rs ps map ms) w 0 ≡ getD map w 0
+  unfolding mapWords
+  later-words-stay w l =
+      let e = length-gather (λ j. word (touchedAt n levels vs rs ps (named ms)) W j ∷ []) 1 (λ j. refl) (wordCount W) in
+      let r = room in
+      ap (λ (m : List ℕ). getD m w 0) map-is ∙ put-behind map 0 (mapWords (touchedAt n levels vs rs ps (named ms)) W) (omega arith) 0 w (omega arith)
 
   control-first-in : n ≤ stackCount n (edges M) levels
   unfolding stackCount

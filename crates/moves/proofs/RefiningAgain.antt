@@ -1,0 +1,249 @@
+-- Demand 3 as the calls see it. In tables that an accepted refinement has filled, after any lists of moves with its V and L:
+--     refining-again-is-accepted        a refinement with the same V and L is accepted;
+--     refining-again-changes-no-point   it writes, at every level, the coordinates that stand there already;
+--     next-list-is-judged-by-itself     the next list comes to its moves: nothing but the map's room (10), its length (12) and its moves (3, 13, 14) can refuse it.
+-- Assumes nothing.
+use Prim.Native.Nat.{ℕ, zero, suc, _+_, _*_, _≤_, _<_}
+use mathlib.Core.Path.{_≡_, refl, sym, ap, subst, _∙_}
+use mathlib.Core.List.{List, [], _∷_}
+use mathlib.Core.Logic.{⊎-elim}
+use native.Mathlib.Omega.{arith}
+use lib.IntN.{ℤ, pos}
+use lib.ListN.{length, getD, drop, length-drop}
+use lib.Seq.{getD-drop}
+use Rattle.mesh.specs.Mesh.{Mesh, edges}
+use Rattle.mesh.specs.Refine.{level}
+use Rattle.mesh.specs.Mask.{refined}
+use Rattle.mesh.proofs.Lists.{eq-split, le-split}
+use Rattle.mesh.proofs.Levels.{level-sound}
+use Rattle.units.specs.Coordinate.{InRange}
+use Rattle.units.specs.declared.Point.{Point}
+use Rattle.millimetres.specs.Move.{movedTo}
+use Rattle.millimetres.specs.Millimetres.{mmOf}
+use Rattle.millimetres.specs.declared.Mm.{Mm}
+use Rattle.millimetres.specs.declared.Change.{Change}
+use Rattle.millimetres.specs.declared.Moved.{Moved}
+use Rattle.millimetres.specs.declared.Moved.the-variants.{At, NotFinite, Outside}
+use Rattle.rings.specs.Table.{rows, ringOf, coordinateAt, pointAt}
+use Rattle.rings.specs.declared.Refusal.{Refusal}
+use Rattle.rings.specs.declared.Verdict.{Verdict}
+use Rattle.rings.specs.declared.Verdict.the-variants.{Accepted, Refused}
+use Rattle.rings.proofs.Verdicts.{then-accepted}
+use Rattle.rings.proofs.Rows.{rows-ring, row-length, room-row}
+use Rattle.map.specs.Map.{wordCount}
+use Rattle.stack_judge.specs.Stack.{levelCount, levelStart, stackCount}
+use Rattle.stack_judge.specs.Accepts.{AcceptsStack}
+use Rattle.stack_judge.specs.StackVerdict.{stackVerdict}
+use Rattle.stack_judge.proofs.AcceptedStack.{stack-only, stack-all}
+use Rattle.stack_judge.proofs.Sizes.{level-count, start-none, start-suc}
+use Rattle.stack_judge.proofs.StackVertices.{starts-climb}
+use Rattle.refine.specs.Refinement.{refineValences, refineRings, refinePositions}
+use Rattle.refine.proofs.StackIsRefined.{valence-is-refined, ring-is-refined, point-is-refined, level-is-refined}
+use Rattle.refine.proofs.StackKeeps.{lengths-stay}
+use Rattle.refine.proofs.StackStaysInHull.{stack-stays-in-range}
+use Rattle.refine.proofs.StackLevels.{point-part}
+use Rattle.refine.proofs.OnlyControlIsRead.{SameControl, same-mesh, same-verdict}
+use Rattle.strange.specs.Expected.{whole}
+use Rattle.as_refined.proofs.StackAsRefined.{AsRefined, nothing-is-strange}
+use Rattle.refresh.proofs.Called.{accepted-moved}
+use Rattle.plan.specs.Moves.{Pending, pending, stopped, placed, settle, step, run, pendingVerdict, pendingPoints}
+use Rattle.plan.specs.Plan.{Near}
+use Rattle.plan.specs.declared.Move.{Move}
+use Rattle.plan.proofs.FairPlans.{moved-near}
+use Rattle.plan.proofs.Laid.{length-placed, point-same, point-other}
+use Rattle.moves.specs.Apply.{beforeMoves, moved, movedControl, applyVerdict, applyPositions}
+use Rattle.moves.proofs.AfterList.{refused-keeps, stack-accepted, control-after, after-length}
+use Rattle.moves.proofs.Judging.{before-accepted}
+use Rattle.moves.specs.Fresh.{ListCall, afterCalls}
+use Rattle.moves.proofs.EveryLevelIsFresh.{every-level-is-fresh}
+
+-- ---- the control points stay in range
+
+-- the points of n vertices are in range
+abbrev NearAll : ℕ → List ℤ → Type 0
+NearAll n ps = (v : ℕ) → v < n → Near (pointAt ps v)
+
+placed-near : (n : ℕ) (ps : List ℤ) (w : ℕ) (p : Point) → w * 3 + 3 ≤ length ps → Near p → NearAll n ps → NearAll n (placed ps w p)
+placed-near n ps w p room q all v h =
+    ⊎-elim
+    (λ e. subst Near (sym (point-same ps w p room) ∙ ap (pointAt (placed ps w p)) (e .1)) q)
+    (λ e. subst Near (sym (point-other ps w p room v (e .1))) (all v h))
+    (eq-split w v)
+
+-- what one move leaves: as long a table, with points in range
+pub record Kept (n : ℕ) (ps qs : List ℤ) : Type 0 where
+  pub long : length qs ≡ length ps
+  pub near : NearAll n qs
+
+settled-kept : (n : ℕ) (ps : List ℤ) (w i : ℕ) (x : Mm) (c : Change) → w * 3 + 3 ≤ length ps → NearAll n ps → (m : Moved) → movedTo x c ≡ m
+    → (qs : List ℤ) → settle ps w i m ≡ pending qs → Kept n ps qs
+settled-kept n ps w i x c room all (At p) e qs h =
+    let q : placed ps w p ≡ qs = cc in
+    subst (Kept n ps) q (record { long = length-placed ps w p room; near = placed-near n ps w p room (moved-near x c p e) all })
+settled-kept n ps w i x c room all NotFinite e qs h = absurd (let z : _≡_ {A = ℕ} 0 1 = cc in omega arith)
+settled-kept n ps w i x c room all Outside e qs h = absurd (let z : _≡_ {A = ℕ} 0 1 = cc in omega arith)
+
+step-kept : (n : ℕ) (ps : List ℤ) (m : Move) (i : ℕ) (qs : List ℤ) → n * 3 ≤ length ps → NearAll n ps → step n (pending ps) m i ≡ pending qs → Kept n ps qs
+unfolding step
+step-kept n ps m i qs room all e =
+    ⊎-elim
+    (λ l. absurd (let h = rw (l .0) at e in let z : _≡_ {A = ℕ} 0 1 = cc in omega arith))
+    (λ l. settled-kept n ps (m .vertex) i (mmOf (pointAt ps (m .vertex))) (m .change) (let q = l .1 in omega arith) all
+    (movedTo (mmOf (pointAt ps (m .vertex))) (m .change)) refl qs (rw (l .0) at e))
+    (le-split n (m .vertex))
+
+run-stopped : (n : ℕ) (ms : List Move) (i : ℕ) (r : Refusal) → run n ms i (stopped r) ≡ stopped r
+unfolding step
+run-stopped n [] i r = refl
+run-stopped n (m ∷ ms) i r = run-stopped n ms (suc i) r
+
+run-near : (n : ℕ) (ms : List Move) (i : ℕ) (ps qs : List ℤ) → n * 3 ≤ length ps → NearAll n ps → run n ms i (pending ps) ≡ pending qs → NearAll n qs
+run-near n [] i ps qs room all e = let q : ps ≡ qs = cc in subst (NearAll n) q all
+run-near n (m ∷ ms) i ps qs room all e = go (step n (pending ps) m i) refl e (λ ts l a h. run-near n ms (suc i) ts qs l a h)
+  where
+    go : (s : Pending) → step n (pending ps) m i ≡ s → run n ms (suc i) s ≡ pending qs
+        → ((ts : List ℤ) → n * 3 ≤ length ts → NearAll n ts → run n ms (suc i) (pending ts) ≡ pending qs → NearAll n qs) → NearAll n qs
+    go (pending ts) h e rest = let f = step-kept n ps m i ts room all h in let l = f .long in rest ts (omega arith) (f .near) e
+    go (stopped r) h e rest = absurd (let k = run-stopped n ms (suc i) r in let z : _≡_ {A = ℕ} 0 1 = cc in omega arith)
+
+near-at : (ps : List ℤ) (v axis : ℕ) → axis < 3 → Near (pointAt ps v) → InRange (coordinateAt ps axis v)
+unfolding pointAt
+near-at ps v zero h n = n .x
+near-at ps v (suc zero) h n = n .y
+near-at ps v (suc (suc zero)) h n = n .z
+near-at ps v (suc (suc (suc k))) h n = absurd (omega arith)
+
+module _ (n levels : ℕ) (vs rs : List ℕ) (ps : List ℤ) (map : List ℕ) (ms : List Move) where
+  control-near : AcceptsStack n levels vs rs ps → NearAll n ps
+  unfolding pointAt
+  control-near a v h = record { x = a .control .near v h 0 (omega arith); y = a .control .near v h 1 (omega arith); z = a .control .near v h 2 (omega arith) }
+
+  module _ (e : applyVerdict n levels vs rs ps map ms ≡ Accepted) where
+    a : AcceptsStack n levels vs rs ps
+    a = stack-accepted n levels vs rs ps map ms e
+
+    run-accepted : pendingVerdict (moved n levels vs rs ps map ms) ≡ Accepted
+    unfolding applyVerdict
+    run-accepted = then-accepted (beforeMoves n levels vs rs ps (length map) (length ms)) (pendingVerdict (moved n levels vs rs ps map ms)) e .1
+
+    moved-in-range : NearAll n (movedControl n levels vs rs ps map ms)
+    unfolding movedControl moved
+    moved-in-range = go (moved n levels vs rs ps map ms) refl run-accepted
+      where
+        go : (s : Pending) → moved n levels vs rs ps map ms ≡ s → pendingVerdict s ≡ Accepted → NearAll n (pendingPoints s ps)
+        go (pending qs) q h = run-near n ms 0 ps qs (a .control .points) (control-near a) q
+        go (stopped r) q h = absurd (let z : _≡_ {A = ℕ} 0 1 = cc in omega arith)
+
+    accepted-keeps : stackVerdict n levels vs rs (applyPositions n levels vs rs ps map ms) ≡ Accepted
+    unfolding level rows
+    accepted-keeps =
+        stack-all n levels vs rs (applyPositions n levels vs rs ps map ms)
+        (accepted-moved a (applyPositions n levels vs rs ps map ms) (after-length n levels vs rs ps map ms e)
+        (λ v h axis b. subst (λ (z : ℤ). InRange z) (sym (control-after n levels vs rs ps map ms e axis b v h)) (near-at (movedControl n levels vs rs ps map ms) v axis b (moved-in-range v h))))
+
+  list-keeps-accepted : stackVerdict n levels vs rs ps ≡ Accepted → stackVerdict n levels vs rs (applyPositions n levels vs rs ps map ms) ≡ Accepted
+  list-keeps-accepted h = go (applyVerdict n levels vs rs ps map ms) refl
+    where
+      go : (v : Verdict) → applyVerdict n levels vs rs ps map ms ≡ v → stackVerdict n levels vs rs (applyPositions n levels vs rs ps map ms) ≡ Accepted
+      go (Refused r) e = rw (refused-keeps n levels vs rs ps map ms r e) h
+      go Accepted e = accepted-keeps e
+
+calls-keep-accepted : (n levels : ℕ) (vs rs : List ℕ) (cs : List ListCall) (ps : List ℤ) → stackVerdict n levels vs rs ps ≡ Accepted
+    → stackVerdict n levels vs rs (afterCalls n levels vs rs cs ps) ≡ Accepted
+calls-keep-accepted n levels vs rs [] ps h = h
+calls-keep-accepted n levels vs rs (c ∷ cs) ps h =
+    calls-keep-accepted n levels vs rs cs (applyPositions n levels vs rs ps (c .map) (c .moves)) (list-keeps-accepted n levels vs rs ps (c .map) (c .moves) h)
+
+-- ---- after a refinement
+
+module _ (n levels : ℕ) (vs rs : List ℕ) (ps : List ℤ) (e : stackVerdict n levels vs rs ps ≡ Accepted) where
+  abbrev M : Mesh
+  M = rows n vs rs
+
+  abbrev vs′ : List ℕ
+  vs′ = refineValences n levels vs rs ps
+
+  abbrev rs′ : List ℕ
+  rs′ = refineRings n levels vs rs ps
+
+  abbrev ps′ : List ℤ
+  ps′ = refinePositions n levels vs rs ps
+
+  start0 : (v : ℕ) → levelStart n (edges M) 0 + v ≡ v
+  start0 v = let z = start-none n (edges M) in omega arith
+
+  control-same : SameControl n vs rs ps vs′ rs′ ps′
+  unfolding level rows refined
+  control-same =
+      let l = lengths-stay n levels vs rs ps in
+      record {
+        valences = sym (l .0);
+        rings = sym (l .1 .0);
+        positions = sym (l .1 .1);
+        valence = λ v h. sym (ap (λ (j : ℕ). getD vs′ j 0) (sym (start0 v)) ∙ valence-is-refined n levels vs rs ps (sym e) 0 v (omega arith) h ∙ valence0 v h);
+        ring = λ v h. sym (ap (ringOf vs′ rs′) (sym (start0 v)) ∙ ring-is-refined n levels vs rs ps (sym e) 0 v (omega arith) h ∙ rows-ring n vs rs v h);
+        point = λ axis v b h. sym (ap (coordinateAt ps′ axis) (sym (start0 v)) ∙ point-is-refined n levels vs rs ps (sym e) 0 v (omega arith) h axis b);
+      }
+    where
+      valence0 : (v : ℕ) → v < n → length (rows n vs rs .ring v) ≡ getD vs v 0
+      valence0 v h = let b = stack-only n levels vs rs ps e .control in ap length (rows-ring n vs rs v h) ∙ row-length vs rs v (room-row (b .room) h (b .most v h))
+
+  again : stackVerdict n levels vs′ rs′ ps′ ≡ Accepted
+  again = sym (same-verdict n levels vs rs ps vs′ rs′ ps′ control-same) ∙ e
+
+  control-stays : rows n vs′ rs′ ≡ M
+  control-stays = sym (same-mesh n levels vs rs ps vs′ rs′ ps′ control-same)
+
+  module _ (cs : List ListCall) where
+    -- the positions after the lists
+    abbrev qs : List ℤ
+    qs = afterCalls n levels vs′ rs′ cs ps′
+
+    pub refining-again-is-accepted : stackVerdict n levels vs′ rs′ qs ≡ Accepted
+    refining-again-is-accepted = calls-keep-accepted n levels vs′ rs′ cs ps′ again
+
+    pub refining-again-changes-no-point : (axis : ℕ) → axis < 3 → (k x : ℕ) → k ≤ levels → x < level (rows n vs′ rs′) k .count
+        → coordinateAt (refinePositions n levels vs′ rs′ qs) axis (levelStart n (edges (rows n vs′ rs′)) k + x) ≡ coordinateAt qs axis (levelStart n (edges (rows n vs′ rs′)) k + x)
+    refining-again-changes-no-point axis b k x l h =
+        point-is-refined n levels vs′ rs′ qs (sym refining-again-is-accepted) k x l h axis b ∙ sym (every-level-is-fresh n levels vs rs ps e cs .fresh axis b k x l h)
+
+    stack : AcceptsStack n levels vs′ rs′ qs
+    stack = stack-only n levels vs′ rs′ qs refining-again-is-accepted
+
+    count-is : (k : ℕ) → level (rows n vs′ rs′) k .count ≡ levelCount n (edges (rows n vs′ rs′)) k
+    unfolding rows
+    count-is k = level-count (rows n vs′ rs′) (stack .control .sound) k
+
+    level-there : (k : ℕ) → k ≤ levels
+        → rows (level (rows n vs′ rs′) k .count) (drop (levelStart n (edges (rows n vs′ rs′)) k) vs′) (drop (levelStart n (edges (rows n vs′ rs′)) k * 32) rs′) ≡ level (rows n vs′ rs′) k
+    level-there k l = rw control-stays (level-is-refined n levels vs rs ps (sym e) k l)
+
+    few : (k x : ℕ) → k ≤ levels → x < level (rows n vs′ rs′) k .count → getD vs′ (levelStart n (edges (rows n vs′ rs′)) k + x) 0 ≤ 32
+    few k x l h =
+        let v : getD vs′ (levelStart n (edges (rows n vs′ rs′)) k + x) 0 ≡ length (level (rows n vs′ rs′) k .ring x) = rw control-stays (valence-is-refined n levels vs rs ps (sym e) k x l (rw control-stays at h)) in
+        let s = level-sound (rows n vs′ rs′) (stack .control .sound) k .proper x h .short in
+        omega arith
+
+    as-refined : (k : ℕ) → k ≤ levels → AsRefined n vs′ rs′ qs k
+    unfolding stackCount
+    as-refined k l = record {
+      mesh = rw (← count-is k) (level-there k l);
+      most = λ x h. subst (λ (m : ℕ). m ≤ 32) (sym (getD-drop (levelStart n (edges (rows n vs′ rs′)) k) vs′ x 0)) (few k x l (rw (count-is k) h));
+      near = record {
+        points =
+            let p = stack .points in
+            let s = start-suc n (edges (rows n vs′ rs′)) k in
+            let c = starts-climb n (edges (rows n vs′ rs′)) (suc k) (suc levels) (omega arith) in
+            rw length-drop (omega arith);
+        near = λ x h axis b.
+            subst (λ (z : ℤ). InRange z)
+            (refining-again-changes-no-point axis b k x l (rw (count-is k) h) ∙ sym (point-part qs (levelStart n (edges (rows n vs′ rs′)) k) axis x))
+            (stack-stays-in-range n levels vs′ rs′ qs (sym refining-again-is-accepted) axis b k x l (rw (count-is k) h));
+      };
+    }
+
+    -- a list of at most 64 moves, with a map that has room, comes to its moves
+    pub next-list-is-judged-by-itself : (words moves : ℕ) → wordCount (whole n levels vs′ rs′ qs) ≤ words → moves ≤ 64 → beforeMoves n levels vs′ rs′ qs words moves ≡ Accepted
+    next-list-is-judged-by-itself words moves room few =
+        sym (before-accepted n levels vs′ rs′ qs words moves (sym refining-again-is-accepted) (whole n levels vs′ rs′ qs) refl room (whole n levels vs′ rs′ qs)
+        (nothing-is-strange n levels vs′ rs′ qs stack as-refined) (omega arith) few)
