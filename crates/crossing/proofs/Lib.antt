@@ -1,2 +1,3 @@
 -- Laws on the answers.
 pub mod Crossed
+pub mod OneAnswer

@@ -1,5 +1,5 @@
 -- What a call promises settles everything: two outcomes that its promise allows for one input are equal, in the answer, and so in number, place and counts,
--- and in every table. For refinement crate `refine` has it (OneOutcome). There is no exception (docs/EXCEPTIONS.md).
+-- and in every table. For refinement crate `refine` has it (OneOutcome). No public call is an exception (docs/EXCEPTIONS.md).
 -- Assumes nothing.
 use mathlib.Core.Path.{_≡_, sym, ap, _∙_}
 use mathlib.Core.List.{List}
@@ -10,7 +10,12 @@ use Rattle.rings.specs.declared.Verdict.{Verdict}
 use Rattle.rings.specs.declared.Amount.{Amount}
 use Rattle.ring_row.specs.Edit.{Edit}
 use Rattle.plan.specs.declared.Move.{Move}
-use Rattle.outcomes.specs.Outcomes.{Answers, Edited, Applied, ReadIn, WrittenOut, Listed}
+use Rattle.rings.specs.Refusal.{Paper}
+use Rattle.crossing.specs.Crossing.{countsPaper, valuePaper}
+use Rattle.crossing.specs.declared.CountsAnswer.{CountsAnswer}
+use Rattle.crossing.specs.declared.ValueAnswer.{ValueAnswer}
+use Rattle.crossing.proofs.OneAnswer.{one-value, one-counts}
+use Rattle.outcomes.specs.Outcomes.{Answers, Edited, Applied, ReadIn, WrittenOut, Listed, Exported}
 
 -- two things that are one promised thing are the same
 pub one-answer : {A : Type 0} {promised a b : A} → Answers promised a → Answers promised b → a ≡ b
@@ -37,3 +42,12 @@ module _ {n : ℕ} {vs rs room room′ room″ : List ℕ} {ps : List ℤ} {a b 
 module _ {input text text′ text″ : List ℕ} {a b : ℕ} where
   pub one-listing : Listed input text a text′ → Listed input text b text″ → (a ≡ b) × (text′ ≡ text″)
   one-listing x y = (one-answer (x .answers) (y .answers), one-answer (x .bytes) (y .bytes))
+
+-- ---- the C interface: twelve calls answer a value, gt_check and gt_refine the counts; those that write no table have the empty one
+
+module _ {T : Type 0} {promised : Paper} {tables tables′ tables″ : T} where
+  pub one-exported-value : {a b : ValueAnswer} → Exported valuePaper promised tables a tables′ → Exported valuePaper promised tables b tables″ → (a ≡ b) × (tables′ ≡ tables″)
+  one-exported-value {a} {b} x y = (one-value a b (x .answers) (y .answers), one-answer (x .writes) (y .writes))
+
+  pub one-exported-counts : {a b : CountsAnswer} → Exported countsPaper promised tables a tables′ → Exported countsPaper promised tables b tables″ → (a ≡ b) × (tables′ ≡ tables″)
+  one-exported-counts {a} {b} x y = (one-counts a b (x .answers) (y .answers), one-answer (x .writes) (y .writes))

@@ -9,6 +9,7 @@ use lib.ListN.{length}
 use Rattle.rings.specs.declared.Verdict.{Verdict}
 use Rattle.rings.specs.declared.Amount.{Amount}
 use Rattle.rings.specs.Table.{put}
+use Rattle.rings.specs.Refusal.{Paper}
 use Rattle.ring_row.specs.Edit.{Edit, valencesAfter, ringsAfter}
 use Rattle.moves.specs.Apply.{applyAnswer, applyPositions, applyMap}
 use Rattle.plan.specs.declared.Move.{Move}
@@ -48,3 +49,8 @@ pub record WrittenOut (n : ℕ) (vs rs : List ℕ) (ps : List ℤ) (room : List 
 pub record Listed (input text : List ℕ) (answer : ℕ) (text′ : List ℕ) : Type 0 where
   pub answers : answer ≡ length (listingText input)
   pub bytes : text′ ≡ put text 0 (listingText input)
+
+-- a call of the C interface: its struct says the promised numbers on paper, and the tables that it is lent to write are, all together, the promised ones
+pub record Exported {A T : Type 0} (paper : A → Paper) (promised : Paper) (tables : T) (answer : A) (tables′ : T) : Type 0 where
+  pub answers : paper answer ≡ promised
+  pub writes : tables′ ≡ tables
