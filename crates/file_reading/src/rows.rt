@@ -11,7 +11,7 @@ ghost use Rattle.meshfile.specs.Blocks.{Put};
 use file_rings::reading::read_ring;
 use meshfile::bytes::coordinate_at;
 use meshfile::bytes::two_at;
-use meshfile::layout::place_after;
+use meshfile::records::place_after;
 
 // The point of v.
 fn read_point(bytes: &[u8], at: usize, positions: &mut [i32], v: usize)

@@ -1,4 +1,4 @@
--- What the record reader finds, and what is known of a record that is there whole. Assumes nothing.
+-- What is found at a place, where the record reader advances to from there, and what is known of a record that is there whole. Assumes nothing.
 use Prim.Native.Nat.{ℕ, _+_, _≤_, _<_}
 use mathlib.Core.Path.{_≡_, refl, sym, ap, _∙_}
 use mathlib.Core.Bool.{Bool, true, false, cond, _&&_}
@@ -9,7 +9,7 @@ use lib.Dec.{eqb}
 use lib.ListN.{length}
 use Rattle.mesh.proofs.First.{true-not-false}
 use Rattle.meshfile.specs.Bytes.{numberAt, lengthAt, kindAt, afterAt, wholeAt}
-use Rattle.meshfile.specs.Records.{foundAt}
+use Rattle.meshfile.specs.Records.{foundAt, pastAt}
 use Rattle.meshfile.specs.Layout.{recordAt}
 use Rattle.meshfile.specs.declared.Found.{Found}
 use Rattle.meshfile.specs.declared.Found.the-variants.{Whole, Cut}
@@ -65,15 +65,22 @@ module _ (s : List ℕ) (at : ℕ) where
   pub found-same : (wanted size : ℕ) {kind n next : ℕ} → Whole kind n next ≡ foundAt s at → kind ≡ wanted → eqb n size ≡ recordAt s at wanted size
   found-same wanted size {kind} {n} {next} e h = sym (rw (eq-eqb kind wanted h)) ∙ by-found wanted size (Whole kind n next) e
 
-  whole-found : wholeAt s at ≡ true → foundAt s at ≡ Whole (kindAt s at) (lengthAt s at) (afterAt s at)
-  unfolding foundAt
-  whole-found e = rw e
+  -- the place behind a record as it is found
+  abbrev behind : Found → ℕ
+  behind (Whole kind n next) = next
+  behind Cut = at
 
-  pub after-whole : wholeAt s at ≡ true → {kind n next : ℕ} → Whole kind n next ≡ foundAt s at → next ≡ afterAt s at
-  after-whole w e = let q = e ∙ whole-found w in cc
+  past-test : (whole : Bool) → cond whole (afterAt s at) at ≡ behind (cond whole (Whole (kindAt s at) (lengthAt s at) (afterAt s at)) Cut)
+  past-test true = refl
+  past-test false = refl
 
-  pub after-cut : wholeAt s at ≡ true → {x y : ℕ} → Cut ≡ foundAt s at → x ≡ y
-  after-cut w e = let q = e ∙ whole-found w in let z : _≡_ {A = ℕ} 0 1 = cc in absurd (omega arith)
+  pub past-found : (f : Found) → f ≡ foundAt s at → behind f ≡ pastAt s at
+  unfolding foundAt pastAt
+  past-found f e = ap behind e ∙ sym (past-test (wholeAt s at))
+
+  pub past-whole : wholeAt s at ≡ true → pastAt s at ≡ afterAt s at
+  unfolding pastAt
+  past-whole e = rw e
 
   -- ---- a whole record
 

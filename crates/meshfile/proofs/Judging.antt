@@ -1,24 +1,25 @@
 -- What judging a layout shows, record by record and as a whole. Assumes nothing.
 use Prim.Native.Nat.{ℕ, _+_, _-_, _*_, _≤_, _<_}
 use mathlib.Core.Path.{_≡_, refl, sym, ap, _∙_}
-use mathlib.Core.Bool.{Bool, true, false, not}
+use mathlib.Core.Bool.{Bool, true, false, not, _&&_}
 use mathlib.Core.List.{List}
 use native.Mathlib.Numerals.{add-one}
 use native.Mathlib.Omega.{arith}
-use borrow.Author.Tests.{lt-ltb, le-ltb, leb-true, ltb-false, not-false}
+use borrow.Author.Tests.{lt-ltb, le-ltb, leb-true, ltb-true, ltb-false, not-false}
 use lib.Dec.{ltb, leb}
 use lib.ListN.{length}
 use Rattle.mesh.specs.Search.{first}
-use Rattle.mesh.proofs.First.{first-le, by-cases}
+use Rattle.mesh.proofs.First.{Clear, clear-none, clear-more, first-is, first-end, first-le, by-cases}
 use Rattle.rings.specs.Verdict.{refuseIf, refuseAt}
 use Rattle.rings.specs.declared.Refusal.the-variants.{BadFile}
 use Rattle.rings.specs.declared.Verdict.{Verdict}
 use Rattle.rings.specs.declared.Verdict.the-variants.{Accepted, Refused}
 use Rattle.rings.proofs.Verdicts.{if-hit, if-pass, at-hit, at-pass, if-accepted, at-accepted}
 use Rattle.meshfile.specs.Bytes.{numberAt, lengthAt, kindAt, afterAt, wholeAt}
+use Rattle.meshfile.specs.Records.{pastAt}
 use Rattle.meshfile.specs.Layout.{fileCount, rowAt, fileValence, recordAt, isFirst, isRow, isLast, fileVerdict}
-use Rattle.meshfile.specs.Judging.{noRow, Passed, Rows}
-use Rattle.meshfile.proofs.Finding.{and-both, record-whole, record-kind, record-length, record-after, record-fits}
+use Rattle.meshfile.specs.Judging.{noRow, rowAhead, Passed, Rows}
+use Rattle.meshfile.proofs.Finding.{and-both, past-whole, record-whole, record-kind, record-length, record-after, record-fits}
 
 not-of : {b t : Bool} → b ≡ t → (not b) ≡ (not t)
 not-of e = ap not e
@@ -60,9 +61,9 @@ row-by s at n e p q = rw (← e, ← p, q)
 
 -- ---- the first record, and the rows behind it
 
-pub first-whole : (s : List ℕ) → isFirst s ≡ true → wholeAt s 0 ≡ true
+pub first-past : (s : List ℕ) → isFirst s ≡ true → pastAt s 0 ≡ afterAt s 0
 unfolding isFirst
-first-whole s e = record-whole s 0 1 2 e
+first-past s e = past-whole s 0 (record-whole s 0 1 2 e)
 
 pub first-after : (s : List ℕ) → isFirst s ≡ true → afterAt s 0 ≡ 8
 unfolding isFirst
@@ -84,11 +85,48 @@ rows-step s v = rw add-one
 pub reached-next : (s : List ℕ) (v at next : ℕ) → at ≡ rowAt s v → next ≡ afterAt s at → next ≡ rowAt s (v + 1)
 reached-next s v at next e p = p ∙ ap (afterAt s) e ∙ sym (rows-step s v)
 
-pub row-here : (s : List ℕ) (v at : ℕ) {r : Bool} (t : Bool) → at ≡ rowAt s v → r ≡ isRow s at → (not r) ≡ t → noRow s v ≡ t
-row-here s v at t e p q = ap (λ (k : ℕ). not (isRow s k)) (sym e) ∙ ap not (sym p) ∙ q
+pub ahead-row : (s : List ℕ) (at v n : ℕ) {r : Bool} → v < n → r ≡ isRow s at → r ≡ rowAhead s at v n
+ahead-row s at v n h e = rw (lt-ltb v n h) e
 
-pub row-good : (s : List ℕ) (at : ℕ) {r : Bool} → r ≡ isRow s at → (not r) ≡ false → isRow s at ≡ true
-row-good s at {r} p q = sym p ∙ not-false r q
+pub ahead-none : (s : List ℕ) (at v n : ℕ) → n ≤ v → false ≡ rowAhead s at v n
+ahead-none s at v n h = rw (le-ltb v n h)
+
+-- all before row v of n are rows, and it begins at this place
+pub record Reaches (s : List ℕ) (n v at : ℕ) : Type 0 where
+  pub most : v ≤ n
+  pub begins : at ≡ rowAt s v
+  pub within : at ≤ length s
+  pub rows : Clear (noRow s) v
+
+-- behind the first record
+pub reaches-first : (s : List ℕ) (n at : ℕ) → isFirst s ≡ true → at ≡ pastAt s 0 → Reaches s n 0 at
+reaches-first s n at f e =
+    let b : at ≡ afterAt s 0 = e ∙ first-past s f in
+    record { most = omega arith; begins = b ∙ sym (rows-start s); within = omega (arith, b, first-after s f, first-fits s f); rows = clear-none }
+
+-- behind a row
+pub reaches-next : (s : List ℕ) (n v at next : ℕ) → Reaches s n v at → rowAhead s at v n ≡ true → next ≡ pastAt s at → (v < n) × Reaches s n (v + 1) next
+reaches-next s n v at next l t e =
+    let (below, good) = and-both (ltb v n) (isRow s at) t in
+    let less : v < n = ltb-true v n below in
+    let row = row-is s at good in
+    let b : next ≡ afterAt s at = e ∙ past-whole s at (row .whole) in (
+      less,
+      record {
+        most = omega arith;
+        begins = reached-next s v at next (l .begins) b;
+        within = omega (arith, b, row .next, row .fits);
+        rows = clear-more (l .rows) (ap (λ (k : ℕ). not (isRow s k)) (sym (l .begins)) ∙ ap not good);
+      },
+    )
+
+-- where no row is ahead
+pub reaches-end : (s : List ℕ) (n v at : ℕ) → Reaches s n v at → rowAhead s at v n ≡ false → Passed s n v at
+reaches-end s n v at l t = record { first = by (ltb v n) refl t; begins = l .begins; within = l .within }
+  where
+    by : (b : Bool) → ltb v n ≡ b → (b && isRow s at) ≡ false → v ≡ first (noRow s) n
+    by true e h = first-is (l .rows) (ltb-true v n e) (ap (λ (k : ℕ). not (isRow s k)) (sym (l .begins)) ∙ ap not h)
+    by false e h = first-end (l .rows) (l .most) (ltb-false v n e)
 
 -- ---- the whole layout
 

@@ -1,4 +1,4 @@
--- What the record reader finds at the place that it has reached.
+-- What begins at the place that the record reader has reached, and where it advances to.
 -- Assumes nothing.
 use mathlib.Core.Bool.{cond}
 use mathlib.Core.List.{List}
@@ -10,3 +10,7 @@ use Rattle.meshfile.specs.declared.Found.the-variants.{Whole, Cut}
 -- a whole record, or bytes that are missing
 unfoldable pub foundAt : List ℕ → ℕ → Found
 foundAt s at = cond (wholeAt s at) (Whole (kindAt s at) (lengthAt s at) (afterAt s at)) Cut
+
+-- the place behind the record that begins at a place; the place itself where bytes are missing
+unfoldable pub pastAt : List ℕ → ℕ → ℕ
+pastAt s at = cond (wholeAt s at) (afterAt s at) at

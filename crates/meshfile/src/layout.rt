@@ -1,18 +1,19 @@
 // The layout of a file, judged record by record: reason 17.
 ghost use mathlib.Core.Path.{_≡_};
 ghost use mathlib.Core.Bool.{true};
-ghost use Prim.Native.Nat.{_+_, _*_, _<_, _≤_};
+ghost use Prim.Native.Nat.{_≤_};
 ghost use lib.ListN.{length};
-ghost use Rattle.meshfile.specs.Bytes.{afterAt, wholeAt};
-ghost use Rattle.meshfile.specs.Layout.{recordAt, isFirst, isRow, rowAt, fileVerdict};
-ghost use Rattle.meshfile.specs.Judging.{Passed};
+ghost use Rattle.meshfile.specs.Layout.{recordAt, isFirst, isRow, fileVerdict};
+ghost use Rattle.meshfile.specs.Judging.{rowAhead, Passed};
 use super::FIRST;
 use super::Found;
 use super::LAST;
 use super::ROW;
 use super::Reached;
 use super::bytes::two_at;
-use super::records::record_from;
+use super::records::advanced;
+use super::records::opened;
+use super::records::record_at;
 use rings::MOST_VALENCE;
 use rings::Refusal;
 use rings::Verdict;
@@ -21,7 +22,7 @@ use rings::Verdict;
 fn is_record(bytes: &[u8], at: usize, wanted: usize, size: usize) -> bool
     ensures { λ r. ⌜ r ≡ recordAt (now (bytes .entry)) at wanted size ⌝ }
 {
-    match record_from(bytes, at) {
+    match record_at(bytes, at) {
         Found::Whole { kind, length, next } => {
             if kind != wanted {
                 return false;
@@ -29,17 +30,6 @@ fn is_record(bytes: &[u8], at: usize, wanted: usize, size: usize) -> bool
             length == size
         }
         Found::Cut => false,
-    }
-}
-
-// The place after a whole record.
-pub fn place_after(bytes: &[u8], at: usize) -> usize
-    requires { ⌜ wholeAt (now bytes) at ≡ true ⌝ }
-    ensures { λ r. ⌜ r ≡ afterAt (now (bytes .entry)) at ⌝ }
-{
-    match record_from(bytes, at) {
-        Found::Whole { kind, length, next } => next,
-        Found::Cut => at,
     }
 }
 
@@ -58,21 +48,33 @@ fn is_row(bytes: &[u8], at: usize) -> bool
     n <= MOST_VALENCE
 }
 
-// The first of so many records, from the second on, that is no row, or their number; and where it begins.
+// Is v one of so many rows, and does a row begin at this place?
+fn is_row_ahead(bytes: &[u8], at: usize, v: usize, count: usize) -> bool
+    requires { ⌜ at ≤ length (now bytes) ⌝ }
+    ensures { λ r. ⌜ r ≡ rowAhead (now (bytes .entry)) at v count ⌝ }
+{
+    if v < count {
+        return is_row(bytes, at);
+    }
+    false
+}
+
+// The first of so many records, from the second on, that is no row, or their number; and where it begins. One reader advances over them all: past the first
+// record, and then from row to row.
 fn past_rows(bytes: &[u8], count: usize) -> Reached
     requires { ⌜ isFirst (now bytes) ≡ true ⌝ }
     ensures { λ r. ⌜ Passed (now (bytes .entry)) count (r .row) (r .at) ⌝ }
 {
-    let mut at = place_after(bytes, 0);
+    let mut records = advanced(opened(bytes));
     let mut v = 0;
-    while v < count {
-        if !is_row(bytes, at) {
-            return Reached { row: v, at: at };
-        }
-        at = place_after(bytes, at);
+    while is_row_ahead(records.bytes, records.at, v, count) {
+        records = advanced(records);
         v += 1;
     }
-    Reached { row: v, at: at }
+    Reached {
+        row: v,
+        at: records.at,
+    }
 }
 
 // Is the layout as expected, or where is it first not?

@@ -10,7 +10,7 @@ pub const ROW: usize = 2;
 
 pub const LAST: usize = 3;
 
-// What the record reader finds: a whole record with the place after it, or bytes that are missing.
+// What begins at a place: a whole record, with the place behind it, or one of which bytes are missing.
 pub enum Found {
     Whole {
         kind: usize,

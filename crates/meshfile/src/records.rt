@@ -1,6 +1,7 @@
-// The record reader: the file's bytes and the place it has reached. Each of its functions takes it apart, and the work is done by `record_at` on a slice and a number.
+// The record reader: the file's bytes and the place it has reached. It is opened at the first byte and advances from record to record; the work is done by
+// `record_at` on a slice and a number.
 ghost use mathlib.Core.Path.{_≡_};
-ghost use Rattle.meshfile.specs.Records.{foundAt};
+ghost use Rattle.meshfile.specs.Records.{foundAt, pastAt};
 use super::Found;
 use super::bytes::four_at;
 use super::bytes::two_at;
@@ -33,23 +34,29 @@ pub fn record_at(bytes: &[u8], at: usize) -> Found
     }
 }
 
-// The reader of these bytes, at a place.
-pub fn opened<'a>(bytes: &'a [u8], at: usize) -> Records<'a>
-    ensures { λ r. ⌜ (r .bytes ≡ bytes .entry) × (r .at ≡ at) ⌝ }
+// The place behind the record that begins at a place; the place itself where bytes are missing.
+pub fn place_after(bytes: &[u8], at: usize) -> usize
+    ensures { λ r. ⌜ r ≡ pastAt (now (bytes .entry)) at ⌝ }
 {
-    Records { bytes, at }
+    match record_at(bytes, at) {
+        Found::Whole { kind, length, next } => next,
+        Found::Cut => at,
+    }
 }
 
-// The record at the place that the reader has reached.
-pub fn next<'a>(records: Records<'a>) -> Found
-    ensures { λ r. ⌜ r ≡ foundAt (now (records .entry .bytes)) (records .entry .at) ⌝ }
+// The reader of these bytes, at the first of them.
+pub fn opened<'a>(bytes: &'a [u8]) -> Records<'a>
+    ensures { λ r. ⌜ (r .bytes ≡ bytes .entry) × (r .at ≡ 0) ⌝ }
 {
-    record_at(records.bytes, records.at)
+    Records { bytes, at: 0 }
 }
 
-// The record that a reader finds at a place: what every caller uses.
-pub fn record_from(bytes: &[u8], at: usize) -> Found
-    ensures { λ r. ⌜ r ≡ foundAt (now (bytes .entry)) at ⌝ }
+// The reader behind the record that it stands at; where it is if bytes are missing.
+pub fn advanced<'a>(records: Records<'a>) -> Records<'a>
+    ensures { λ r. ⌜ (r .bytes ≡ records .entry .bytes) × (r .at ≡ pastAt (now (records .entry .bytes)) (records .entry .at)) ⌝ }
 {
-    next(opened(bytes, at))
+    Records {
+        bytes: records.bytes,
+        at: place_after(records.bytes, records.at),
+    }
 }

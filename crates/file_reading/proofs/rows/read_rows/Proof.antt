@@ -8,7 +8,7 @@ use Rattle.meshfile.specs.Bytes.{afterAt}
 use Rattle.meshfile.specs.Layout.{isRow}
 use Rattle.meshfile.specs.Judging.{Row}
 use Rattle.meshfile.proofs.Blocks.{put-one}
-use Rattle.meshfile.proofs.Judging.{IsRow, row-is, first-whole}
+use Rattle.meshfile.proofs.Judging.{IsRow, row-is, first-past}
 use Rattle.file_reading.proofs.RowsRead.{ReadTo, read-none, read-next, read-all, row-of, row-fits}
 use Rattle.file_reading.proofs.rows.read_rows.Statement.{statement}
 use Rattle.file_reading.proofs.rows.read_rows.Tie as tie
@@ -31,10 +31,10 @@ here : (c : tie.After-two-at Inv-loop μ-loop) → Row (c .before .before .befor
 here c = row-of _ _ _ _ (c .before .before .before .before .before .before .before .pre .0 .row _ (c .before .loop-test .taken)) (c .before .before .loop .inv .1 .here) (c .two-at .ensures .0)
 
 place-after-requires : tie.Need-place-after-requires Inv-loop μ-loop
-place-after-requires c κs = first-whole _ (c .before .before .before .pre .0 .first)
+place-after-requires c κs = search needs
 
 loop-holds : tie.Need-loop-holds Inv-loop μ-loop
-loop-holds c = (search needs, read-none _ _ _ _ (c .place-after .ensures))
+loop-holds c = (search needs, read-none _ _ _ _ (c .place-after .ensures ∙ first-past _ (c .before .before .before .before .pre .0 .first)))
 
 add-two-at : tie.Need-add-two-at Inv-loop μ-loop
 add-two-at c = let h = fits c in search needs
