@@ -251,14 +251,13 @@ static void hold_touched(size_t count, const size_t *counts, size_t levels, size
         touched_above(valence, ring, counts[k], at, ring + GT_RING_PLACES * counts[k], counts[k + 1], at + counts[k]);
         valence += counts[k], ring += GT_RING_PLACES * counts[k], at += counts[k];
     }
-    const uint32_t *words = (const uint32_t *)map.begin;
-    for (size_t i = 0; i < (total + 31) / 32 * 32; i++) {
-        size_t bit = words[i / 32] >> i % 32 & 1;
+    for (size_t i = 0; i < 32 * gt_map_words(total); i++) {
+        size_t bit = (size_t)gt_is_touched((const uint32_t *)map.begin, i);
         ones += bit;
         HOLD(bit == (i < total ? touched[i] : 0));
         if (i < total && !touched[i]) HOLD(memcmp(positions.begin + 12 * i, positions.was + 12 * i, 12) == 0);
     }
-    size_t from = (total + 31) / 32 * 4;
+    size_t from = 4 * gt_map_words(total);
     HOLD(memcmp(map.begin + from, map.was + from, map.bytes - from) == 0);
     HOLD(memcmp(positions.begin + 12 * total, positions.was + 12 * total, positions.bytes - 12 * total) == 0);
     HOLD(ones == answered && count <= total);
@@ -277,7 +276,7 @@ static size_t count_levels(const control_mesh *m, size_t levels, size_t *counts)
 /* Refines, moves, and compares with a fresh refinement of the moved control mesh. */
 static void try_moves(const control_mesh *m) {
     size_t levels = 1 + below(m->count < 12 ? 4 : 2), counts[5];
-    size_t total = count_levels(m, levels, counts), rows = total + below(3), words = (total + 31) / 32 + below(2);
+    size_t total = count_levels(m, levels, counts), rows = total + below(3), words = gt_map_words(total) + below(2);
     lend_mesh(m, rows, words);
     gt_counts refined = call_refine(m->count, levels);
     HOLD(refined.number == 0 && refined.v == counts[levels] && 3 * refined.f == 2 * refined.e);
@@ -333,7 +332,7 @@ static int alter(size_t at) {
 static void try_altered(const control_mesh *m) {
     size_t levels = 1 + below(2), counts[5], total = count_levels(m, levels, counts), last = total - counts[levels];
     size_t at = m->count + below(total - m->count), old = counts[levels - 1];
-    lend_mesh(m, total, (total + 31) / 32);
+    lend_mesh(m, total, gt_map_words(total));
     HOLD(call_refine(m->count, levels).number == 0);
     int wanted = alter(at);
     remember_tables();
@@ -349,7 +348,7 @@ static void try_altered(const control_mesh *m) {
     }
     remember_tables();
     call_moves(m->count, levels, 1);
-    lend_mesh(m, total, (total + 31) / 32);
+    lend_mesh(m, total, gt_map_words(total));
     call_refine(m->count, levels);
     size_t x = old + below(counts[levels] - old), y = below(4) ? old + below(counts[levels] - old) : below(counts[levels]);
     exchange((uint16_t *)rings.begin + GT_RING_PLACES * last, (uint16_t *)valences.begin + last, counts[levels], x, y);
@@ -370,7 +369,7 @@ static void try_lengths(const control_mesh *m) {
     size_t levels = 1 + below(2), counts[5], total = count_levels(m, levels, counts), room = 14 + 20 * m->count;
     for (size_t v = 0; v < m->count; v++) room += 2 * (size_t)m->valences[v];
     for (size_t control = 0; control < 2; control++) {
-        lend_mesh(m, control ? m->count : total, (total + 31) / 32);
+        lend_mesh(m, control ? m->count : total, gt_map_words(total));
         if (!control) call_refine(m->count, levels);
         switch (below(5)) {
         case 0: shorten(&valences, 2, &valences_length); break;

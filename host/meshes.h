@@ -25,7 +25,7 @@ typedef struct {
 static inline void mesh_row(control_mesh *m, size_t v, size_t valence, const size_t *ring) {
     uint16_t *row = m->rings + GT_RING_PLACES * v;
     m->valences[v] = (uint16_t)valence;
-    for (size_t i = 0; i < GT_RING_PLACES; i++) row[i] = i < valence ? (uint16_t)ring[i] : GT_NULL_VERTEX;
+    for (size_t i = 0; i < GT_RING_PLACES; i++) row[i] = (uint16_t)(i < valence ? ring[i] : (size_t)GT_NULL_VERTEX);
 }
 
 static inline size_t mesh_place(const control_mesh *m, size_t v, size_t x) {

@@ -28,6 +28,13 @@
 #include <stddef.h>
 #include <stdint.h>
 
+/* The version of this header and of the archive that goes with it. */
+#define GT_VERSION_MAJOR 1       /* grows if a program written for the version before may have to be changed */
+#define GT_VERSION_MINOR 0       /* grows if something is added, and nothing that was there changes */
+#define GT_VERSION_PATCH 0       /* grows if only costs or comments change, or a fault is mended */
+/* All three as one number that grows with each version: 10203 is 1.2.3. It serves in #if. */
+#define GT_VERSION (10000 * GT_VERSION_MAJOR + 100 * GT_VERSION_MINOR + GT_VERSION_PATCH)
+
 #ifdef __cplusplus
 extern "C" {
 #endif
@@ -100,7 +107,8 @@ typedef struct {
 
 /* Is this a sound closed mesh? Every ring is proper (valence 3 to 32, all its numbers below V, none v itself, none
  * twice), u is in v's ring exactly if v is in u's, and any two successive neighbours of a vertex make a triangle with
- * it, wound the same way seen from all three. Several components are allowed.
+ * it, wound the same way seen from all three. Several components are allowed. Seen from outside, the rings may turn
+ * either way; refinement keeps it.
  * Reads:    the first V rows of the three tables. Writes: nothing.
  * Answers:  V, E, F.
  * Refuses:  2, 1, 4, 5, 6, 7, each over all vertices before the next.
@@ -192,6 +200,52 @@ gt_value gt_prev(const uint16_t *valences, size_t valences_length, const uint16_
                  size_t count, size_t v, size_t x);
 gt_value gt_valence(const uint16_t *valences, size_t valences_length, const uint16_t *rings, size_t rings_length,
                     size_t count, size_t v);
+
+/* HELPERS are defined here and not in the archive; they are tested, not proved. */
+
+/* A reason of a refusal as a short English text, "accepted" for 0, "unknown reason" for a number that is none. */
+static inline const char *gt_reason(uint32_t number) {
+    switch (number) {
+    case GT_ACCEPTED: return "accepted";
+    case GT_TABLE_TOO_SHORT: return "a table is too short for the control mesh";
+    case GT_VERTEX_COUNT: return "the number of vertices is not 4 to 1,024";
+    case GT_NO_SUCH_VERTEX: return "there is no vertex of this number";
+    case GT_RING_IMPROPER: return "the ring of a vertex is improper";
+    case GT_NOT_MUTUAL: return "a neighbour of a vertex does not have it as a neighbour";
+    case GT_NOT_TRIANGLE: return "a face at a vertex is not a triangle";
+    case GT_CONTROL_COORDINATE: return "a control coordinate is out of range";
+    case GT_LEVEL_COUNT: return "the number of levels is not 1 to 4";
+    case GT_LEVEL_TOO_LARGE: return "a level would have over 65,535 vertices";
+    case GT_NO_ROOM: return "the room for the stack, the map or the file is too short";
+    case GT_STACK_ALTERED: return "a level above the control mesh is not as refinement gives it";
+    case GT_TOO_MANY_MOVES: return "there are over 64 moves";
+    case GT_NOT_FINITE: return "a number of a move is not finite";
+    case GT_OUT_OF_REACH: return "a move leads out of -1024 to 1024 millimetres";
+    case GT_NEIGHBOUR_TAKEN: return "a neighbour is the vertex itself or is there already";
+    case GT_RING_FULL: return "a ring has at most 32 neighbours";
+    case GT_FILE_LAYOUT: return "the bytes are not a mesh file";
+    case GT_UNKNOWN_KIND: return "the kind of a move is not 0, 1 or 2";
+    default: return "unknown reason";
+    }
+}
+
+/* The rows that the tables need for a control mesh of v vertices and e edges, as gt_check answers them, and the levels
+ * above it: so many valences, 32 times as many ring places, 3 times as many coordinates. For 0 levels it is v. */
+static inline size_t gt_stack_rows(size_t v, size_t e, size_t levels) {
+    size_t rows = v;
+    for (; levels > 0; levels--) {
+        v += e;
+        e *= 4;
+        rows += v;
+    }
+    return rows;
+}
+
+/* The words that the map of gt_moves needs for a stack of so many rows. */
+static inline size_t gt_map_words(size_t rows) { return rows / 32 + (rows % 32 != 0); }
+
+/* Is stack vertex i touched, by a map that gt_moves has written? 1 or 0. */
+static inline int gt_is_touched(const uint32_t *map, size_t i) { return (map[i / 32] >> (i % 32) & 1u) != 0; }
 
 #ifdef __cplusplus
 }

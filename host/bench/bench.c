@@ -35,16 +35,11 @@ static void make_mesh(const char *name) {
     mesh_random_positions(&control, &state, GT_GREATEST_COORDINATE);
 }
 
-static size_t stack_rows(void) {
-    size_t ends = 0, count = control.count, total = control.count;
-    for (size_t v = 0; v < control.count; v++) ends += control.valences[v];
-    for (size_t k = 0, edges = ends / 2; k < levels; k++, edges *= 4) total += count += edges;
-    return total;
-}
-
 static void prepare(void) {
     uint64_t state = 999;
-    rows = stack_rows(), words = (rows + 31) / 32;
+    size_t ends = 0;
+    for (size_t v = 0; v < control.count; v++) ends += control.valences[v];
+    rows = gt_stack_rows(control.count, ends / 2, levels), words = gt_map_words(rows);
     valences = calloc(rows, sizeof *valences), rings = calloc(GT_RING_PLACES * rows, sizeof *rings);
     positions = calloc(3 * rows, sizeof *positions), map = calloc(words, sizeof *map);
     file = calloc(1, 14 + 84 * control.count);

@@ -16,7 +16,7 @@ int main(int argc, char **argv) {
     size_t length = drag_moves(moves, argc > 2 ? argv[2] : NULL), total = drag_apply(&s, moves, length);
     for (size_t k = 0; k <= s.levels; k++) {
         size_t touched = 0;
-        for (size_t i = 0; i < s.count[k]; i++) touched += (size_t)drag_touched(&s, s.start[k] + i);
+        for (size_t i = 0; i < s.count[k]; i++) touched += (size_t)gt_is_touched(s.map, s.start[k] + i);
         printf("level %zu: %zu of %zu points touched\n", k, touched, s.count[k]);
     }
     printf("%zu moves, %zu of %zu points touched\n", length, total, s.rows);

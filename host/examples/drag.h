@@ -17,7 +17,7 @@ typedef struct {
 } drag_stack;
 
 static inline void drag_stop(const char *what, uint32_t number, size_t place) {
-    fprintf(stderr, "%s: refused %u %zu\n", what, number, place);
+    fprintf(stderr, "%s: refused %u %zu: %s\n", what, number, place, gt_reason(number));
     exit(1);
 }
 
@@ -43,19 +43,19 @@ static inline uint8_t *drag_bytes(const char *path, size_t *length) {
     return bytes;
 }
 
-/* Lays out as many levels as fit, at most `wanted`, above a checked control mesh; makes room for them in the tables. */
+/* Lays out as many levels as fit, at most `wanted`, above a checked control mesh. */
 static inline void drag_layout(drag_stack *s, gt_counts control, size_t wanted) {
-    size_t edges = control.e;
-    s->count[0] = s->rows = control.v;
-    s->start[0] = 0;
-    for (s->levels = 0; s->levels < wanted; s->levels++, edges *= 4) {
-        size_t count = s->count[s->levels] + edges;
-        if (count > GT_MOST_LEVEL_VERTICES) break;
-        s->start[s->levels + 1] = s->rows;
-        s->count[s->levels + 1] = count;
-        s->rows += count;
+    s->levels = s->start[0] = 0;
+    s->rows = s->count[0] = control.v;
+    for (size_t k = 1; k <= wanted && k <= GT_MOST_LEVELS; k++) {
+        size_t rows = gt_stack_rows(control.v, control.e, k);
+        if (rows - s->rows > GT_MOST_LEVEL_VERTICES) break;
+        s->levels = k;
+        s->start[k] = s->rows;
+        s->count[k] = rows - s->rows;
+        s->rows = rows;
     }
-    s->words = (s->rows + 31) / 32;
+    s->words = gt_map_words(s->rows);
 }
 
 /* Reads a mesh file, checks it, and refines it at most `wanted` times. */
@@ -82,6 +82,17 @@ static inline void drag_open(drag_stack *s, const char *path, size_t wanted) {
     free(bytes);
 }
 
+/* Reads a mesh file for one of its levels, refined that far and at least once; answers the level's number. */
+static inline size_t drag_open_level(drag_stack *s, const char *path, const char *digit) {
+    size_t level = digit[0] >= '0' && digit[0] <= '9' && !digit[1] ? (size_t)(digit[0] - '0') : GT_MOST_LEVELS + 1;
+    drag_open(s, path, level > 1 ? level : 1);
+    if (level > s->levels) {
+        fprintf(stderr, "%s: no level %s\n", path, digit);
+        exit(1);
+    }
+    return level;
+}
+
 /* Reads moves, one a line: place, shift or stretch, then the vertex and three numbers. Without a file, vertex 0 is
  * shifted by a millimetre. */
 static inline size_t drag_moves(gt_move *moves, const char *path) {
@@ -98,7 +109,8 @@ static inline size_t drag_moves(gt_move *moves, const char *path) {
         perror(path);
         exit(1);
     }
-    while (length < GT_MOST_MOVES && fscanf(file, "%7s %u %lf %lf %lf", word, &move.vertex, &move.x, &move.y, &move.z) == 5) {
+    while (length < GT_MOST_MOVES &&
+           fscanf(file, "%7s %u %lf %lf %lf", word, &move.vertex, &move.x, &move.y, &move.z) == 5) {
         for (move.kind = 0; move.kind < 3 && strcmp(word, kinds[move.kind]) != 0; move.kind++) continue;
         moves[length++] = move;
     }
@@ -113,7 +125,5 @@ static inline size_t drag_apply(drag_stack *s, const gt_move *moves, size_t leng
     if (touched.number) drag_stop("moving", touched.number, touched.place);
     return touched.value;
 }
-
-static inline int drag_touched(const drag_stack *s, size_t i) { return s->map[i / 32] >> i % 32 & 1; }
 
 #endif

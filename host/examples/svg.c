@@ -57,7 +57,7 @@ static void draw_edges(sheet s, const drag_stack *stack, size_t level) {
 static void draw_points(sheet s, const drag_stack *stack, size_t level) {
     for (size_t v = 0; v < stack->count[level]; v++) {
         double x, y;
-        int touched = drag_touched(stack, stack->start[level] + v);
+        int touched = gt_is_touched(stack->map, stack->start[level] + v);
         place(s, stack->positions + 3 * (stack->start[level] + v), &x, &y);
         printf("<circle cx='%.1f' cy='%.1f' r='%s' fill='%s'/>\n", x, y, touched ? "3" : "1", touched ? "#d20" : "#456");
     }
