@@ -18,6 +18,9 @@
  * LENGTHS are in items, not bytes. A table may be longer than needed: its tail is neither read nor written. A pointer
  * may be null if its length is 0. Tables lent to one call must not overlap.
  *
+ * FLOATING POINT. The caller's floating-point environment is the default one: rounding to nearest, exceptions masked.
+ * Only gt_moves uses floats; it may raise exception flags, and changes nothing else of the environment.
+ *
  * ANSWERS. `number` is 0 if the call was accepted, otherwise the reason of the refusal (below); `place` says where,
  * and is 0 if accepted or if the reason names no place. A REFUSED CALL WRITES NOTHING. The reasons are judged in the
  * order given at each call, and the first that holds is answered.
