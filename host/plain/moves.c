@@ -29,13 +29,19 @@ INLINE int row_agrees(const pair *l, size_t p, size_t valence) {
     return 1;
 }
 
+/* Have the old vertices of the level above the valences they had, and the new ones 6? Inlined it would take registers
+ * from what follows. */
+__attribute__((noinline)) static int valences_agree(const pair *l) {
+    uint16_t other = 0;
+    for (size_t p = 0; p < l->count; p++) other |= l->next_valences[p] ^ l->valences[p];
+    for (size_t x = l->count; x < l->count + l->edges; x++) other |= l->next_valences[x] ^ 6;
+    return !other;
+}
+
 /* Is the level above what refinement gives? If the edges that the new vertices name ascend strictly, and every edge is
  * named by the new vertex that both its ends have for it, then the new vertices are numbered as they should be. */
 static int as_refined(const pair *l) {
-    if (memcmp(l->valences, l->next_valences, 2 * l->count) != 0) return 0;
-    uint16_t other = 0;
-    for (size_t x = l->count; x < l->count + l->edges; x++) other |= l->next_valences[x] ^ 6;
-    if (other) return 0;
+    if (!valences_agree(l)) return 0;
     uint32_t last = 0;
     for (size_t x = l->count; x < l->count + l->edges; x++) {
         const uint16_t *ring = row_of(l->next_rings, x);
