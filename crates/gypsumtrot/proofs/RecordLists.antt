@@ -7,8 +7,8 @@ use lib.ListN.{length, length-map}
 use Rattle.rings.specs.Refusal.{Paper}
 use Rattle.rings.specs.Paper.{paperAmount}
 use Rattle.moves.specs.Apply.{applyAnswer, applyPositions, applyMap}
-use Rattle.plan.specs.Plan.{emptyPlan, walkOf}
-use Rattle.moves.specs.Settle.{settleAnswer, settlePositions, settleMap}
+use Rattle.plan.specs.Plan.{walkOf}
+use Rattle.moves.specs.Settle.{firstPlan, settleAnswer, settlePositions, settleMap}
 use Rattle.plan.specs.declared.Plan.{Plan}
 use Rattle.moves.proofs.Settled.{settle-is-apply}
 use Rattle.move_records.specs.Records.{moveOf, movesOf, byKinds, recordsAnswer}
@@ -16,7 +16,7 @@ use Rattle.move_records.specs.declared.MoveRecord.{MoveRecord}
 
 module _ (n levels : ℕ) (vs rs : List ℕ) (ps : List ℤ) (words : List ℕ) (list : List MoveRecord) where
   abbrev planned : Plan
-  planned = walkOf ps (movesOf list) (emptyPlan n)
+  planned = walkOf ps (movesOf list) (firstPlan n levels)
 
   -- settling the plan, for so many moves, is the call with the moves
   abbrev Same : ℕ → Type 0

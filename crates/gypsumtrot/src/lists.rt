@@ -11,9 +11,9 @@ use crossing::answers::of_amount;
 use move_records::MoveRecord;
 use move_records::by_kinds;
 use move_records::walk_records;
+use moves::call::first_plan;
 use moves::call::settle;
 use plan::Plan;
-use plan::list::opened;
 
 // What is done with the plan of a list.
 fn settle_records(
@@ -52,7 +52,7 @@ pub extern "C" fn gt_moves(
     by_kinds(
         list,
         settle_records(
-            walk_records(list, positions, opened(count)),
+            walk_records(list, positions, first_plan(count, levels)),
             list.len(),
             valences,
             rings,

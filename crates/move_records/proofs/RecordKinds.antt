@@ -1,18 +1,28 @@
--- The move that a record means, by its kind, and what a list of records answers by the kind at the answer's place. Assumes nothing.
-use Prim.Native.Nat.{ℕ, _≤_, _<_, _*_, _^_}
-use mathlib.Core.Path.{_≡_, sym, ap, _∙_}
+-- The move that a record means, by its kind; how much of a list of records is looked at; and what a list of records answers by the kind at the answer's place. Assumes nothing.
+use Prim.Native.Nat.{ℕ, zero, suc, _≤_, _<_, _*_, _^_}
+use mathlib.Core.Path.{_≡_, refl, sym, ap, _∙_}
+use mathlib.Core.Bool.{Bool, true, false, _&&_}
 use mathlib.Core.Logic.{_≢_}
-use mathlib.Core.List.{List}
+use mathlib.Core.List.{List, [], _∷_, map}
 use native.Mathlib.Omega.{arith}
 use borrow.Author.Tests.{eq-eqb, ne-eqb, lt-ltb, le-ltb}
+use lib.Dec.{ltb}
 use lib.Ieee.{nan}
-use lib.ListN.{length, getD, List·getD-map, List·getD-eq-default}
+use lib.IntN.{ℤ}
+use lib.ListN.{length, length-map, take, getD, List·getD-map, List·getD-eq-default}
 use Rattle.rings.specs.Refusal.{Paper, refused}
 use Rattle.millimetres.specs.declared.Change.{Change}
 use Rattle.millimetres.specs.declared.Change.the-variants.{Place, Shift, Stretch}
+use Rattle.plan.specs.Plan.{aheadOf, walkOf}
 use Rattle.plan.specs.declared.Move.{Move}
+use Rattle.plan.specs.declared.Plan.{Plan}
+use Rattle.plan.proofs.WalksStop.{walk-stops}
 use Rattle.move_records.specs.Records.{moveOf, byKind, byKinds}
 use Rattle.move_records.specs.declared.MoveRecord.{MoveRecord}
+
+and-false : (b : Bool) → b && false ≡ false
+and-false true = refl
+and-false false = refl
 
 module _ (r : MoveRecord) where
   abbrev of : ℕ → Change → Move
@@ -36,21 +46,35 @@ module _ (r : MoveRecord) where
       unfolding moveOf
       no-known-kind c = rw (ne-eqb (r .kind) 0 a, ne-eqb (r .kind) 1 b, ne-eqb (r .kind) 2 c)
 
+-- ---- how much of a list of records is looked at
+
+moves-taken : (k : ℕ) (list : List MoveRecord) → map moveOf (take k list) ≡ take k (map moveOf list)
+moves-taken zero list = refl
+moves-taken (suc k) [] = refl
+moves-taken (suc k) (r ∷ list) = ap (λ (ms : List Move). moveOf r ∷ ms) (moves-taken k list)
+
+-- the records that are looked at come to what the whole list comes to
+pub records-stop : (ps : List ℤ) (list : List MoveRecord) (s : Plan) → walkOf ps (map moveOf (take (aheadOf s (length list)) list)) s ≡ walkOf ps (map moveOf list) s
+records-stop ps list s =
+    ap (λ (ms : List Move). walkOf ps ms s) (moves-taken (aheadOf s (length list)) list)
+    ∙ ap (λ (n : ℕ). walkOf ps (take (aheadOf s n) (map moveOf list)) s) (sym (length-map list moveOf))
+    ∙ walk-stops ps (map moveOf list) s
+
 -- ---- an answer at a record of this kind
 
 module _ (kind : ℕ) (p : Paper) where
+  -- only the answer 3 depends on it
+  pub another-number : p .number ≢ 3 → p ≡ byKind kind p
+  unfolding byKind
+  another-number e = rw (ne-eqb (p .number) 3 e, and-false (ltb 2 kind))
+
   pub known-kind : kind ≤ 2 → p ≡ byKind kind p
   unfolding byKind
   known-kind h = rw (le-ltb 2 kind h)
 
-  module _ (h : 2 < kind) where
-    pub unknown-kind : p .number ≡ 3 → refused 99 (p .place) 0 ≡ byKind kind p
-    unfolding byKind
-    unknown-kind e = rw (lt-ltb 2 kind h, eq-eqb (p .number) 3 e)
-
-    pub another-number : p .number ≢ 3 → p ≡ byKind kind p
-    unfolding byKind
-    another-number e = rw (lt-ltb 2 kind h, ne-eqb (p .number) 3 e)
+  pub unknown-kind : 2 < kind → p .number ≡ 3 → refused 99 (p .place) 0 ≡ byKind kind p
+  unfolding byKind
+  unknown-kind h e = rw (lt-ltb 2 kind h, eq-eqb (p .number) 3 e)
 
 -- 32 bytes for each record before i: within what a slice may take
 pub offset-fits : {n i : ℕ} → n * 32 < 2 ^ 63 → i < n → i * 32 < 2 ^ 64
@@ -64,6 +88,11 @@ module _ (list : List MoveRecord) (p : Paper) where
   at-place : byKind (getD list (p .place) noRecord .kind) p ≡ byKinds list p
   unfolding byKinds noRecord
   at-place = ap (λ (kind : ℕ). byKind kind p) (sym (List·getD-map (λ (r : MoveRecord). r .kind) list (p .place) noRecord))
+
+  -- another answer
+  pub not-by-kinds : p .number ≢ 3 → p ≡ byKinds list p
+  unfolding byKinds
+  not-by-kinds e = another-number _ p e
 
   -- past the end
   pub no-record : length list ≤ p .place → p ≡ byKinds list p

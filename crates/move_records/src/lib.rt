@@ -7,6 +7,7 @@ use crossing::ValueAnswer;
 use millimetres::Change;
 use plan::Move;
 use plan::Plan;
+use plan::list::ahead;
 use plan::list::step;
 
 // The kinds of a move.
@@ -73,35 +74,38 @@ fn step_record(positions: &[i32], plan: Plan, item: MoveRecord) -> Plan
 pub fn walk_records(list: &[MoveRecord], positions: &[i32], start: Plan) -> Plan
     ensures { λ r. ⌜ r ≡ walkOf (now (positions .entry)) (movesOf (now (list .entry))) start ⌝ }
 {
+    let end = ahead(start, list.len());
     let mut plan = start;
     let mut i = 0;
-    while i < list.len() {
+    while i < end {
         plan = step_record(positions, plan, list[i]);
         i += 1;
     }
     plan
 }
 
-// The answer of a list whose record at the answer's place is this one: 99 in place of 3 where its kind is unknown.
+// The answer 3 of a list whose record at the answer's place is this one: 99 in its place where the kind is unknown.
 fn by_kind(answer: ValueAnswer, item: MoveRecord) -> ValueAnswer
+    requires { ⌜ answer .number ≡ 3 ⌝ }
     ensures { λ r. ⌜ valuePaper r ≡ byKind (item .kind) (valuePaper answer) ⌝ }
 {
     if STRETCH < item.kind {
-        if answer.number == NO_SUCH_VERTEX {
-            return ValueAnswer {
-                number: UNKNOWN_KIND,
-                place: answer.place,
-                value: 0,
-            };
-        }
+        return ValueAnswer {
+            number: UNKNOWN_KIND,
+            place: answer.place,
+            value: 0,
+        };
     }
     answer
 }
 
-// The answer of a list of records whose moves answer this: one thin look at the record at the answer's place.
+// The answer of a list of records whose moves answer this: one thin look at the record at the answer's place, where it is 3.
 pub fn by_kinds(list: &[MoveRecord], answer: ValueAnswer) -> ValueAnswer
     ensures { λ r. ⌜ valuePaper r ≡ byKinds (now (list .entry)) (valuePaper answer) ⌝ }
 {
+    if answer.number != NO_SUCH_VERTEX {
+        return answer;
+    }
     let place = answer.place;
     if list.len() <= place {
         return answer;

@@ -20,7 +20,7 @@ use Rattle.rings.specs.declared.Refusal.the-variants.{NoRoom, NotAsRefined, Too
 use Rattle.rings.specs.declared.Verdict.the-variants.{Accepted, Refused}
 use Rattle.rings.proofs.Verdicts.{if-hit, if-pass, at-hit, at-pass, if-accepted, at-accepted, then-accepted}
 use Rattle.map.specs.Map.{wordCount}
-use Rattle.stack_judge.specs.Stack.{levelCount, levelStart, stackCount}
+use Rattle.stack_judge.specs.Stack.{levelCount, levelStart, stackCount, badLevels}
 use Rattle.stack_judge.specs.Accepts.{AcceptsStack}
 use Rattle.stack_judge.specs.StackVerdict.{stackVerdict}
 use Rattle.stack_judge.proofs.AcceptedStack.{stack-only}
@@ -94,9 +94,10 @@ module _ (n levels : ℕ) (vs rs : List ℕ) (ps : List ℤ) (words moves : ℕ)
     pub room : wordCount (whole n levels vs rs ps) ≤ words
     pub true′ : whole n levels vs rs ps ≡ first (strange n levels vs rs ps) (whole n levels vs rs ps)
     pub few : moves ≤ 64
+    pub good : badLevels levels ≡ false
 
   pub judged : beforeMoves n levels vs rs ps words moves ≡ Accepted → Judged
-  unfolding beforeMoves
+  unfolding beforeMoves stackVerdict
   judged e =
       let b = then-accepted (stackVerdict n levels vs rs ps) _ e in
       let c = if-accepted (ltb words (wordCount (whole n levels vs rs ps))) _ _ (b .1) in
@@ -107,4 +108,5 @@ module _ (n levels : ℕ) (vs rs : List ℕ) (ps : List ℤ) (words moves : ℕ)
         room = ltb-false words (wordCount (whole n levels vs rs ps)) (c .0);
         true′ = first-end (d .0) (omega arith) (omega arith);
         few = ltb-false 64 moves (f .0);
+        good = if-accepted (badLevels levels) _ _ (b .0) .0;
       }

@@ -1,26 +1,28 @@
--- The outcomes of settling a plan, and that settling the plan of a list is the call with the list. Assumes nothing.
+-- The outcomes of settling a plan, the plan before the first move, and that settling the plan of a list is the call with the list. Assumes nothing.
 use Prim.Native.Nat.{ℕ}
 use mathlib.Core.Path.{_≡_, refl, sym, ap, ap₂, subst, _∙_}
-use mathlib.Core.Bool.{Bool}
+use mathlib.Core.Bool.{Bool, true, false}
 use mathlib.Core.List.{List}
 use native.Mathlib.Omega.{arith}
 use lib.IntN.{ℤ}
 use lib.ListN.{length}
-use Rattle.rings.specs.Verdict.{andThen, after, withAmount}
+use Rattle.rings.specs.Verdict.{refuseIf, andThen, after, withAmount}
 use Rattle.rings.specs.declared.Refusal.{Refusal}
+use Rattle.rings.specs.declared.Refusal.the-variants.{BadLevels}
 use Rattle.rings.specs.declared.Verdict.{Verdict}
 use Rattle.rings.specs.declared.Verdict.the-variants.{Accepted, Refused}
 use Rattle.rings.specs.declared.Amount.{Amount}
 use Rattle.rings.specs.declared.Amount.the-variants as amount
 use Rattle.rings.specs.declared.Amount.the-variants.{Of}
+use Rattle.stack_judge.specs.Stack.{badLevels}
 use Rattle.refresh.specs.Stack.{refreshedPositions}
 use Rattle.plan.specs.Moves.{named, pendingVerdict}
 use Rattle.moves.specs.Apply.{beforeMoves, touchedTotal, touchedMap, moved, movedControl, applyVerdict, applyAnswer, applyPositions, applyMap}
-use Rattle.plan.specs.Plan.{emptyPlan, planned, laid, namedIn, walkOf}
-use Rattle.moves.specs.Settle.{settleVerdict, settleAnswer, settlePositions, settleMap}
+use Rattle.plan.specs.Plan.{Fair, openedPlan, planned, laid, namedIn, walkOf}
+use Rattle.moves.specs.Settle.{firstPlan, settleVerdict, settleAnswer, settlePositions, settleMap}
 use Rattle.plan.specs.declared.Plan.{Plan}
 use Rattle.plan.specs.declared.Move.{Move}
-use Rattle.plan.proofs.FairPlans.{walk-count}
+use Rattle.plan.proofs.FairPlans.{walk-fair, walk-count}
 use Rattle.moves.proofs.Judging.{judged}
 use Rattle.plan.proofs.PlansMeanMoves.{Means, plan-means}
 
@@ -47,11 +49,31 @@ module _ (plan : Plan) (moves levels : ℕ) (vs rs : List ℕ) (ps : List ℤ) (
     unfolding settleAnswer settlePositions settleMap settleVerdict andThen after withAmount planned
     settle-done h count ps′ map′ a b c = (rw (← e, h) (ap Of a), rw (← e, h) b, rw (← e, h) c)
 
+-- ---- the plan before the first move
+
+module _ (n levels : ℕ) where
+  pub first-refused : true ≡ badLevels levels → (s : Plan) → s ≡ openedPlan n (Refused BadLevels) → s ≡ firstPlan n levels
+  unfolding firstPlan refuseIf
+  first-refused e s h = rw (← e) h
+
+  pub first-accepted : false ≡ badLevels levels → (s : Plan) → s ≡ openedPlan n Accepted → s ≡ firstPlan n levels
+  unfolding firstPlan refuseIf
+  first-accepted e s h = rw (← e) h
+
 -- ---- the plan of a list
 
 module _ (n levels : ℕ) (vs rs : List ℕ) (ps : List ℤ) (map : List ℕ) (ms : List Move) where
   abbrev plan : Plan
-  plan = walkOf ps ms (emptyPlan n)
+  plan = walkOf ps ms (firstPlan n levels)
+
+  plan-count : plan .count ≡ n
+  unfolding firstPlan
+  plan-count = walk-count ps ms n _
+
+  -- it can be carried out
+  pub list-fair : Fair plan
+  unfolding firstPlan
+  list-fair = walk-fair ps ms n _
 
   -- all three of a call's outcome, by its verdict, names and control points
   record Outcome (answer : Amount) (positions : List ℤ) (marks : List ℕ) (verdict : Verdict) (names : ℕ → Bool) (control : List ℤ) : Type 0 where
@@ -62,7 +84,7 @@ module _ (n levels : ℕ) (vs rs : List ℕ) (ps : List ℤ) (map : List ℕ) (m
   by-plan : Outcome (settleAnswer plan (length ms) levels vs rs ps map) (settlePositions plan (length ms) levels vs rs ps map) (settleMap plan (length ms) levels vs rs ps map)
       (andThen (beforeMoves n levels vs rs ps (length map) (length ms)) (plan .verdict)) (namedIn (planned plan)) (laid ps (planned plan))
   unfolding settleAnswer settlePositions settleMap settleVerdict
-  by-plan = let c = walk-count ps ms n in record { answers = rw c; points = rw c; marked = rw c }
+  by-plan = let c = plan-count in record { answers = rw c; points = rw c; marked = rw c }
 
   by-list : Outcome (applyAnswer n levels vs rs ps map ms) (applyPositions n levels vs rs ps map ms) (applyMap n levels vs rs ps map ms)
       (andThen (beforeMoves n levels vs rs ps (length map) (length ms)) (pendingVerdict (moved n levels vs rs ps map ms))) (named ms) (movedControl n levels vs rs ps map ms)
@@ -81,10 +103,11 @@ module _ (n levels : ℕ) (vs rs : List ℕ) (ps : List ℤ) (map : List ℕ) (m
       )
   same-outcome (Refused r) o o′ f = (o .answers ∙ sym (o′ .answers), o .points ∙ sym (o′ .points), o .marked ∙ sym (o′ .marked))
 
-  judged-list : beforeMoves n levels vs rs ps (length map) (length ms) ≡ Accepted → Means n ps ms
+  judged-list : beforeMoves n levels vs rs ps (length map) (length ms) ≡ Accepted → Means n ps ms plan
   judged-list e =
       let j = judged n levels vs rs ps (length map) (length ms) e in
-      plan-means n ps ms (j .stack .control .points) (j .stack .control .near) (j .few)
+      subst (λ (s : Plan). Means n ps ms (walkOf ps ms s)) (first-accepted n levels (sym (j .good)) (openedPlan n Accepted) refl)
+      (plan-means n ps ms (j .stack .control .points) (j .stack .control .near) (j .few))
 
   -- settling the plan of a list is the call with the list: answer, positions and map
   pub settle-is-apply : (settleAnswer plan (length ms) levels vs rs ps map ≡ applyAnswer n levels vs rs ps map ms)

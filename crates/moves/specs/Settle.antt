@@ -4,13 +4,20 @@ use mathlib.Core.List.{List}
 use Prim.Native.Nat.{ℕ}
 use lib.IntN.{ℤ}
 use lib.ListN.{length}
-use Rattle.rings.specs.Verdict.{andThen, after, withAmount}
+use Rattle.rings.specs.Verdict.{refuseIf, andThen, after, withAmount}
+use Rattle.rings.specs.declared.Refusal.the-variants.{BadLevels}
 use Rattle.rings.specs.declared.Verdict.{Verdict}
+use Rattle.rings.specs.declared.Verdict.the-variants.{Accepted}
 use Rattle.rings.specs.declared.Amount.{Amount}
+use Rattle.stack_judge.specs.Stack.{badLevels}
 use Rattle.refresh.specs.Stack.{refreshedPositions}
-use Rattle.plan.specs.Plan.{planned, laid, namedIn}
+use Rattle.plan.specs.Plan.{openedPlan, planned, laid, namedIn}
 use Rattle.moves.specs.Apply.{beforeMoves, touchedTotal, touchedMap}
 use Rattle.plan.specs.declared.Plan.{Plan}
+
+-- the plan before the first move, for n control vertices and so many levels: refused already where 8 refuses
+unfoldable pub firstPlan : ℕ → ℕ → Plan
+firstPlan n levels = openedPlan n (refuseIf (badLevels levels) BadLevels Accepted)
 
 module _ (plan : Plan) (moves levels : ℕ) (vs rs : List ℕ) (ps : List ℤ) (map : List ℕ) where
   -- the stack is judged, then the plan's verdict stands

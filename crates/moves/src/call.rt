@@ -5,7 +5,7 @@ ghost use Rattle.rings.specs.declared.Verdict.the-variants.{Accepted};
 ghost use Rattle.refresh.specs.Stack.{refreshedPositions};
 ghost use Rattle.moves.specs.Apply.{beforeMoves, touchedTotal, touchedMap, applyAnswer, applyPositions, applyMap};
 ghost use Rattle.plan.specs.Plan.{Fair, planned, laid, namedIn};
-ghost use Rattle.moves.specs.Settle.{settleAnswer, settlePositions, settleMap};
+ghost use Rattle.moves.specs.Settle.{firstPlan, settleAnswer, settlePositions, settleMap};
 use super::control::write_control;
 use as_refined::stack::first_strange;
 use map::words_for;
@@ -19,6 +19,7 @@ use rings::Amount;
 use rings::Refusal;
 use rings::Verdict;
 use stack_judge::edge_count;
+use stack_judge::is_bad_levels;
 use stack_judge::judge_stack;
 use stack_judge::stack_count;
 
@@ -121,6 +122,17 @@ pub fn settle(
     }
 }
 
+// The plan before the first move of a list: refused already where the number of levels is, so that
+// no move is looked at.
+pub fn first_plan(count: usize, levels: usize) -> Plan
+    ensures { λ r. ⌜ r ≡ firstPlan count levels ⌝ }
+{
+    if is_bad_levels(levels) {
+        return opened(count, Verdict::Refused(Refusal::BadLevels));
+    }
+    opened(count, Verdict::Accepted)
+}
+
 // A list of moves on a refined stack: every point that depends on a moved one is set and marked, and
 // no other.
 pub fn apply(
@@ -137,7 +149,7 @@ pub fn apply(
         × (now (map .exit) ≡ applyMap count levels (now (valences .entry)) (now (rings .entry)) (now (positions .entry)) (now (map .entry)) (now (list .entry))) ⌝ }
 {
     settle(
-        walk(list, positions, opened(count)),
+        walk(list, positions, first_plan(count, levels)),
         list.len(),
         valences,
         rings,

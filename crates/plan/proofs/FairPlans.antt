@@ -27,7 +27,7 @@ use Rattle.rings.specs.declared.Refusal.{Refusal}
 use Rattle.rings.specs.declared.Refusal.the-variants as refusal
 use Rattle.rings.specs.declared.Verdict.{Verdict}
 use Rattle.rings.specs.declared.Verdict.the-variants.{Accepted, Refused}
-use Rattle.plan.specs.Plan.{Near, Fair, emptyPlan, currentPoint, notedIn, refusedIn, resultIn, takenIn, stepOf, walkOf}
+use Rattle.plan.specs.Plan.{Near, Fair, openedPlan, currentPoint, notedIn, refusedIn, resultIn, takenIn, stepOf, walkOf}
 use Rattle.plan.specs.declared.Move.{Move}
 use Rattle.plan.specs.declared.Entry.{Entry}
 use Rattle.plan.specs.declared.Plan.{Plan}
@@ -54,9 +54,9 @@ moved-near-by p c false e q h = let g : NotFinite ≡ At q = sym (moved-by p c f
 pub moved-near : (p : Mm) (c : Change) (q : Point) → movedTo p c ≡ At q → Near q
 moved-near p c q h = moved-near-by p c (fit c) refl q h
 
-pub empty-fair : (n : ℕ) → Fair (emptyPlan n)
-unfolding emptyPlan
-empty-fair n = record { size = refl; few = omega arith; below = λ k h d. absurd (omega arith); near = λ k h d. absurd (omega arith) }
+pub opened-fair : (n : ℕ) (r : Verdict) → Fair (openedPlan n r)
+unfolding openedPlan
+opened-fair n r = record { size = refl; few = omega arith; below = λ k h d. absurd (omega arith); near = λ k h d. absurd (omega arith) }
 
 refused-fair : (s : Plan) (r : Refusal) → Fair s → Fair (refusedIn s r)
 unfolding refusedIn
@@ -112,8 +112,8 @@ walk-fair-from ps [] s f = f
 walk-fair-from ps (m ∷ ms) s f = walk-fair-from ps ms (stepOf ps s m) (step-fair ps s m f)
 
 -- the plan of a list is fair, whatever the table holds
-pub walk-fair : (ps : List ℤ) (ms : List Move) (n : ℕ) → Fair (walkOf ps ms (emptyPlan n))
-walk-fair ps ms n = walk-fair-from ps ms (emptyPlan n) (empty-fair n)
+pub walk-fair : (ps : List ℤ) (ms : List Move) (n : ℕ) (r : Verdict) → Fair (walkOf ps ms (openedPlan n r))
+walk-fair ps ms n r = walk-fair-from ps ms (openedPlan n r) (opened-fair n r)
 
 -- ---- it is a plan for the same vertices
 
@@ -140,6 +140,6 @@ unfolding walkOf
 walk-count-from ps [] s = refl
 walk-count-from ps (m ∷ ms) s = walk-count-from ps ms (stepOf ps s m) ∙ step-count ps s m
 
-pub walk-count : (ps : List ℤ) (ms : List Move) (n : ℕ) → walkOf ps ms (emptyPlan n) .count ≡ n
-unfolding emptyPlan
-walk-count ps ms n = walk-count-from ps ms (emptyPlan n)
+pub walk-count : (ps : List ℤ) (ms : List Move) (n : ℕ) (r : Verdict) → walkOf ps ms (openedPlan n r) .count ≡ n
+unfolding openedPlan
+walk-count ps ms n r = walk-count-from ps ms (openedPlan n r)

@@ -28,18 +28,20 @@ use Rattle.rings.specs.declared.Verdict.{Verdict}
 use Rattle.rings.specs.declared.Verdict.the-variants.{Accepted, Refused}
 use Rattle.rings.proofs.Checks.{not-beyond}
 use Rattle.plan.specs.Moves.{Pending, pending, stopped, settle, step, run, named, pendingVerdict, pendingPoints}
-use Rattle.plan.specs.Plan.{Near, Fair, origin, emptyPlan, planned, namedIn, laid, readPoint, keptPoint, latestPoint, currentPoint, notedIn, refusedIn, resultIn, takenIn, stepOf, walkOf}
+use Rattle.plan.specs.Plan.{Near, Fair, origin, openedPlan, planned, namedIn, laid, readPoint, keptPoint, latestPoint, currentPoint, notedIn, refusedIn, resultIn, takenIn, stepOf, walkOf}
 use Rattle.plan.specs.declared.Move.{Move}
 use Rattle.plan.specs.declared.Entry.{Entry}
 use Rattle.plan.specs.declared.Plan.{Plan}
 use Rattle.plan.proofs.Plans.{kept-self, step-refused, step-unknown, step-taken}
-use Rattle.plan.proofs.FairPlans.{empty-fair, step-fair}
+use Rattle.plan.proofs.WalksStop.{not-both, walk-refused}
+use Rattle.plan.proofs.FairPlans.{opened-fair, step-fair}
 use Rattle.plan.proofs.Laid.{Each, Low, NearEntry, each-take, latest-laid, latest-near, laid-append, named-append, or-assoc, or-none}
 
-pub record Means (n : ℕ) (ps : List ℤ) (ms : List Move) : Type 0 where
-  pub verdict : walkOf ps ms (emptyPlan n) .verdict ≡ pendingVerdict (run n ms 0 (pending ps))
-  pub points : walkOf ps ms (emptyPlan n) .verdict ≡ Accepted → laid ps (planned (walkOf ps ms (emptyPlan n))) ≡ pendingPoints (run n ms 0 (pending ps)) ps
-  pub names : walkOf ps ms (emptyPlan n) .verdict ≡ Accepted → namedIn (planned (walkOf ps ms (emptyPlan n))) ≡ named ms
+-- this plan means what the list says, for n control vertices at these positions
+pub record Means (n : ℕ) (ps : List ℤ) (ms : List Move) (s : Plan) : Type 0 where
+  pub verdict : s .verdict ≡ pendingVerdict (run n ms 0 (pending ps))
+  pub points : s .verdict ≡ Accepted → laid ps (planned s) ≡ pendingPoints (run n ms 0 (pending ps)) ps
+  pub names : s .verdict ≡ Accepted → namedIn (planned s) ≡ named ms
 
 -- ---- what a plan means
 
@@ -50,9 +52,6 @@ outcome (Refused r) l = stopped r
 outcome-verdict : (r : Verdict) (l : List ℤ) → pendingVerdict (outcome r l) ≡ r
 outcome-verdict Accepted l = refl
 outcome-verdict (Refused r) l = refl
-
-not-both : {A : Type 0} (a : Verdict) (r : Refusal) → a ≡ Accepted → a ≡ Refused r → A
-not-both a r p q = absurd (let z : _≡_ {A = ℕ} 0 1 = cc in omega arith)
 
 outcome-points : (r : Verdict) (l old : List ℤ) → r ≡ Accepted → l ≡ pendingPoints (outcome r l) old
 outcome-points Accepted l old e = refl
@@ -65,12 +64,6 @@ meaning ps s = outcome (s .verdict) (laid ps (planned s))
 planned-noted : (s : Plan) (v : ℕ) (p : Point) → s .taken < length (s .entries) → planned (notedIn s v p) ≡ planned s ++ (record { vertex = v; point = p } ∷ [])
 unfolding planned notedIn
 planned-noted s v p h = rw add-one (take-suc-set (s .entries) (s .taken) (record { vertex = v; point = p }) h)
-
--- the list goes on from a refused plan as it is
-walk-refused : (ps : List ℤ) (ms : List Move) (s : Plan) (r : Refusal) → s .verdict ≡ Refused r → walkOf ps ms s ≡ s
-unfolding walkOf
-walk-refused ps [] s r e = refl
-walk-refused ps (m ∷ ms) s r e = ap (walkOf ps ms) (sym (step-refused ps s m r e)) ∙ walk-refused ps ms s r e
 
 module _ (n : ℕ) (ps : List ℤ) (room : n * 3 ≤ length ps) (near : (v : ℕ) → v < n → Near (pointAt ps v)) where
   -- a plan t after the move m at list place i, from a plan s
@@ -179,15 +172,15 @@ module _ (n : ℕ) (ps : List ℤ) (ms : List Move) (room : n * 3 ≤ length ps)
   unfolding pointAt
   near-point v h = record { x = near v h 0 (omega arith); y = near v h 1 (omega arith); z = near v h 2 (omega arith) }
 
-  from-empty : run n ms 0 (pending ps) ≡ meaning ps (walkOf ps ms (emptyPlan n))
-  unfolding emptyPlan planned meaning
-  from-empty = walk-means n ps room near-point ms (emptyPlan n) (empty-fair n) refl 0 (λ q. refl) (omega arith)
+  from-empty : run n ms 0 (pending ps) ≡ meaning ps (walkOf ps ms (openedPlan n Accepted))
+  unfolding openedPlan planned meaning
+  from-empty = walk-means n ps room near-point ms (openedPlan n Accepted) (opened-fair n Accepted) refl 0 (λ q. refl) (omega arith)
 
-  names-empty : walkOf ps ms (emptyPlan n) .verdict ≡ Accepted → (v : ℕ) → namedIn (planned (walkOf ps ms (emptyPlan n))) v ≡ named ms v
-  unfolding emptyPlan planned
-  names-empty a v = walk-names n ps room near-point ms (emptyPlan n) (empty-fair n) refl 0 (λ q. refl) (omega arith) a v
+  names-empty : walkOf ps ms (openedPlan n Accepted) .verdict ≡ Accepted → (v : ℕ) → namedIn (planned (walkOf ps ms (openedPlan n Accepted))) v ≡ named ms v
+  unfolding openedPlan planned
+  names-empty a v = walk-names n ps room near-point ms (openedPlan n Accepted) (opened-fair n Accepted) refl 0 (λ q. refl) (omega arith) a v
 
-  pub plan-means : Means n ps ms
+  pub plan-means : Means n ps ms (walkOf ps ms (openedPlan n Accepted))
   unfolding meaning
   plan-means = record {
     verdict = sym (ap pendingVerdict from-empty ∙ outcome-verdict _ _);

@@ -19,6 +19,7 @@ use Rattle.rings.specs.Table.{pointAt}
 use Rattle.rings.specs.Verdict.{after}
 use Rattle.rings.specs.declared.Refusal.{Refusal}
 use Rattle.rings.specs.declared.Refusal.the-variants as refusal
+use Rattle.rings.specs.declared.Verdict.{Verdict}
 use Rattle.rings.specs.declared.Verdict.the-variants.{Accepted, Refused}
 use Rattle.plan.specs.Moves.{placed}
 use Rattle.plan.specs.declared.Move.{Move}
@@ -33,9 +34,9 @@ origin = record { x = pos 0; y = pos 0; z = pos 0 }
 abbrev pub blank : Entry
 blank = record { vertex = 0; point = origin }
 
--- the plan before the first move, for n control vertices
-unfoldable pub emptyPlan : ℕ → Plan
-emptyPlan n = record { count = n; verdict = Accepted; taken = 0; entries = replicate mostMoves blank }
+-- the plan before the first move, for n control vertices, with what was judged before it
+unfoldable pub openedPlan : ℕ → Verdict → Plan
+openedPlan n r = record { count = n; verdict = r; taken = 0; entries = replicate mostMoves blank }
 
 -- the entries of the moves that were taken
 unfoldable pub planned : Plan → List Entry
@@ -111,6 +112,10 @@ stepOf ps s m =
     (cond (leb (s .count) (m .vertex)) (refusedIn s (refusal.NoVertex (s .taken)))
     (takenIn ps s m)))
     s
+
+-- how many moves of a list are looked at, from this plan: none once it is refused, else the first 64
+unfoldable pub aheadOf : Plan → ℕ → ℕ
+aheadOf s moves = after (s .verdict) (cond (ltb mostMoves moves) mostMoves moves) 0
 
 -- the moves in order
 unfoldable pub walkOf : List ℤ → List Move → Plan → Plan

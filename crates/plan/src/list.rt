@@ -4,7 +4,7 @@ ghost use Prim.Native.Nat.{_≤_, _<_};
 ghost use lib.ListN.{take};
 ghost use Rattle.mesh.specs.Limits.{mostMoves};
 ghost use Rattle.units.specs.Coordinate.{InRange};
-ghost use Rattle.plan.specs.Plan.{emptyPlan, readPoint, keptPoint, latestPoint, currentPoint, notedIn, refusedIn, takenIn, stepOf, walkOf};
+ghost use Rattle.plan.specs.Plan.{openedPlan, aheadOf, readPoint, keptPoint, latestPoint, currentPoint, notedIn, refusedIn, takenIn, stepOf, walkOf};
 use super::Entry;
 use super::MOST_MOVES;
 use super::Move;
@@ -17,15 +17,15 @@ use rings::Refusal;
 use rings::Verdict;
 use units::Point;
 
-// The plan before the first move.
-pub fn opened(count: usize) -> Plan
-    ensures { λ r. ⌜ r ≡ emptyPlan count ⌝ }
+// The plan before the first move, with what was judged before it.
+pub fn opened(count: usize, verdict: Verdict) -> Plan
+    ensures { λ r. ⌜ r ≡ openedPlan count verdict ⌝ }
 {
     let point = Point { x: 0, y: 0, z: 0 };
     let entry = Entry { vertex: 0, point };
     Plan {
         count,
-        verdict: Verdict::Accepted,
+        verdict,
         taken: 0,
         entries: [entry; 64],
     }
@@ -146,13 +146,30 @@ pub fn step(positions: &[i32], plan: Plan, m: Move) -> Plan
     }
 }
 
+// How many moves of a list are looked at, from this plan: none once it is refused, else the first 64.
+pub fn ahead(plan: Plan, moves: usize) -> usize
+    ensures { λ r. ⌜ r ≡ aheadOf plan moves ⌝ }
+{
+    let verdict = plan.verdict;
+    match verdict {
+        Verdict::Refused(_reason) => 0,
+        Verdict::Accepted => {
+            if MOST_MOVES < moves {
+                return MOST_MOVES;
+            }
+            moves
+        }
+    }
+}
+
 // The moves in order: one thin loop over `step`.
 pub fn walk(list: &[Move], positions: &[i32], start: Plan) -> Plan
     ensures { λ r. ⌜ r ≡ walkOf (now (positions .entry)) (now (list .entry)) start ⌝ }
 {
+    let end = ahead(start, list.len());
     let mut plan = start;
     let mut i = 0;
-    while i < list.len() {
+    while i < end {
         plan = step(positions, plan, list[i]);
         i += 1;
     }

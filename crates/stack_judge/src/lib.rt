@@ -20,7 +20,7 @@ pub const MOST_LEVELS: usize = 4;
 pub const MOST_VERTICES: usize = 65535;
 
 // Reason 8: is the number of levels not 1 to 4?
-fn is_bad_levels(levels: usize) -> bool
+pub fn is_bad_levels(levels: usize) -> bool
     ensures { λ r. ⌜ r ≡ badLevels levels ⌝ }
 {
     if levels < LEAST_LEVELS {

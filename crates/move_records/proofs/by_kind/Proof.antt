@@ -1,17 +1,14 @@
 -- `by_kind` meets its contract. Assumes nothing.
 use Rattle.crossing.specs.Crossing.{valuePaper}
-use Rattle.move_records.proofs.RecordKinds.{known-kind, unknown-kind, another-number}
+use Rattle.move_records.proofs.RecordKinds.{known-kind, unknown-kind}
 use Rattle.move_records.proofs.by_kind.Statement.{statement}
 use Rattle.move_records.proofs.by_kind.Tie as tie
 
 returns : tie.Need-returns
-returns c = let a = c .before .before .before .before .args in unknown-kind (a .item .kind) (valuePaper (a .answer)) (c .before .before .if1 .taken) (c .if2 .taken)
+returns c = let a = c .before .before .args in unknown-kind (a .item .kind) (valuePaper (a .answer)) (c .if1 .taken) (c .before .before .pre)
 
 returns-2 : tie.Need-returns-2
-returns-2 c = let a = c .before .before .before .before .args in another-number (a .item .kind) (valuePaper (a .answer)) (c .before .before .if1 .taken) (c .if2 .left)
-
-returns-3 : tie.Need-returns-3
-returns-3 c = let a = c .before .before .args in known-kind (a .item .kind) (valuePaper (a .answer)) (c .if1 .left)
+returns-2 c = let a = c .before .before .args in known-kind (a .item .kind) (valuePaper (a .answer)) (c .if1 .left)
 
 pub by-kind-spec : {M : Type 1} → statement M
-by-kind-spec = tie.close (tie.spec returns returns-2 returns-3)
+by-kind-spec = tie.close (tie.spec returns returns-2)

@@ -1,16 +1,17 @@
--- `walk_records` meets its contract: its code is walked by hand, as that of the walk over moves is. The loop has no branch of its own: `step_record` leaves a refused or a full plan as it is.
--- The invariant: the records that are left, from the plan reached, come to what the whole list comes to from the first plan.
+-- `walk_records` meets its contract: its code is walked by hand, as that of the walk over moves is. `ahead` says where it ends; the loop has no branch of its own.
+-- The invariant: the records that are left of those that are looked at, from the plan reached, come to what they all come to from the first plan; that is what the whole list comes to (`records-stop`).
 -- Assumes nothing.
-use mathlib.Core.Path.{_≡_, refl, sym, _∙_}
+use mathlib.Core.Path.{_≡_, refl, sym, ap, _∙_}
 use Prim.Native.Nat.{ℕ, _<_, _≤_, _^_, _+_, _-_, zero-le}
-use native.Mathlib.Nat.{lt-of-le-of-lt}
+use native.Mathlib.Nat.{lt-of-le-of-lt, lt-of-lt-of-le}
 use native.Mathlib.Numerals.{add-one, add-one-le, add-one-dec}
+use native.Mathlib.Omega.{arith}
 use mathlib.Core.WellFounded.{WellFounded, InvImage·wf}
 use mathlib.Core.List.{List, [], _∷_, map}
 use lib.WfN.{Nat·lt-wfRel}
 use lib.IntN.{ℤ}
-use lib.ListN.{length, getD, drop as dropped, drop-of-length-le}
-use lib.Seq.{drop-cons}
+use lib.ListN.{length, getD, take, drop as dropped, drop-of-length-le}
+use lib.Seq.{drop-cons, length-take-le, getD-take}
 use lib.Dec.{T as Holds, ltb, lit<}
 use borrow.Author.Tests.{ltb-true, ltb-false}
 use mathlib.Core.Bool.{Bool, true, false}
@@ -28,19 +29,20 @@ use contract.Lifetimes.{Lfts}
 use contract.Monad.{Fun, fact}
 use contract.Running.{givenOf, tables, tablesOf}
 use sound.WpLaws.{fmOf, WpFn-mono}
-use types.Kit.{Given, Item, ‵, raw, _⊛_, ⋆, some, later, runs, anyQ, atRet, Sq, _$_, _∵_, !, qed, by, move, keep, use1, use2, split, join, pick, rewrite, fsplit, fjoin, suffices, frame, await, done}
+use types.Kit.{Given, Item, ‵, raw, _⊛_, ⋆, some, later, runs, anyQ, atRet, Sq, _$_, _∵_, !, qed, by, move, keep, drop, use1, use2, split, join, pick, rewrite, fsplit, fjoin, suffices, frame, await, done}
 use types.Part.{whole, sub, look-in}
 use types.Run.{look, look-raw, store, init, forget, stop, hop, fld, from, load, lit, of-opd, bin, and-then, no-more, assigns, assigns-last, land, first, blocks, stays, leaves-loop, returns, enter, alloc1, alloc0, params1, pass1, pass0, free1, free0, exec, Below, again, loops}
 use denote.Exit.{yes}
 use denote.RattleType.{owns}
 use denote.Laws.{Is, shows}
+use denote.Plain.{uint-makes, uint-lawful}
 use denote.Memory.{pointee}
 use denote.Ref.{RefT, now}
 use denote.Slice.{sliceTy, sliceVal, ShrSlice, Room, slice-vals, shr-slice-tells, shr-slice-copy}
 use denote.Index.{place-is, elem-out, elem-back, looks-slice, shuts-slice}
 use denote.Signature.{plain}
-use denote.Builtin.{i32}
-use denote.Steps.{nothing, owned, facts, heard}
+use denote.Builtin.{usize, i32}
+use denote.Steps.{only, nothing, owned, facts, heard}
 use denote.Struct.Laws as LL
 use denote.Triple.Statement.{Contract, Triple}
 use denote.Triple.Call.{calls-at}
@@ -49,13 +51,18 @@ use denote.Triple.Spec.{Meets, tripleOf}
 use denote.Triple.Table.{entered, cited}
 use denote.Triple.Clauses.{ensured, lasts}
 use denote.Triple.Walked.{says, Stays, stay-none-slice, stay-none, walkOf as walkTriple, Walks, ends-at, walked, goes-none-slice, goes-none, walk-meets}
-use Rattle.plan.specs.Plan.{stepOf, walkOf}
+use Rattle.plan.specs.Plan.{stepOf, aheadOf, walkOf}
 use Rattle.plan.specs.declared.Plan.{Plan}
+use Rattle.plan.proofs.WalksStop.{ahead-below}
 use Rattle.plan.proofs.Plan as S
 use Rattle.plan.proofs.Plan.Laws as S′
+use Rattle.plan.proofs.list.ahead as ahead
+use Rattle.plan.proofs.list.ahead.Symbol as ahead-def
+use Rattle.plan.proofs.list.ahead.Symbol.{name as #ahead}
+use Rattle.plan.proofs.list.ahead.Met as ahead-thm
 use Rattle.move_records.specs.Records.{moveOf}
 use Rattle.move_records.specs.declared.MoveRecord.{MoveRecord}
-use Rattle.move_records.proofs.RecordKinds.{offset-fits, noRecord}
+use Rattle.move_records.proofs.RecordKinds.{records-stop, offset-fits, noRecord}
 use Rattle.move_records.proofs.MoveRecord as T
 use Rattle.move_records.proofs.MoveRecord.Laws as T′
 use Rattle.move_records.proofs.step_record as step
@@ -74,26 +81,32 @@ stayed = (stay-none-slice (0 ∷ []) tt (plain (λ _. T.the-row)) yes, (stay-non
 abbrev vals : MoveRecord → List Val
 vals = LL.vals T.the-type T′.the-laws
 
--- where the loop has got to: the next place, the state with its machine value, and what is left to do
-record Upto (t : List ℤ) (ys : List MoveRecord) (s₀ : Plan) : Type 0 where
+-- where the loop over the first `end` records has got to: the next place, the state with its machine value, and what is left to do
+record Upto (t : List ℤ) (ys : List MoveRecord) (end : ℕ) (s₀ : Plan) : Type 0 where
   i : ℕ
   s : Plan
   u : Val
-  le : i ≤ length ys
+  le : i ≤ end
   is : Is S.the-row s (u ∷ [])
-  so : walkOf t (map moveOf (dropped i ys)) s ≡ walkOf t (map moveOf ys) s₀
+  so : walkOf t (map moveOf (dropped i (take end ys))) s ≡ walkOf t (map moveOf (take end ys)) s₀
 
-one-more : (t : List ℤ) (ys : List MoveRecord) (i : ℕ) (s r : Plan) → i < length ys → r ≡ stepOf t s (moveOf (getD ys i noRecord))
-    → walkOf t (map moveOf (dropped (i + 1) ys)) r ≡ walkOf t (map moveOf (dropped i ys)) s
-unfolding walkOf
-one-more t ys i s r h e = rw (add-one, drop-cons ys i noRecord h, e)
+module _ (t : List ℤ) (ys : List MoveRecord) (end : ℕ) (low : end ≤ length ys) (i : ℕ) where
+  looked : length (take end ys) ≡ end
+  looked = length-take-le end ys low
 
-all-done : (t : List ℤ) (ys : List MoveRecord) (i : ℕ) (s : Plan) → length ys ≤ i → walkOf t (map moveOf (dropped i ys)) s ≡ s
-unfolding walkOf
-all-done t ys i s h = rw (drop-of-length-le ys h)
+  one-more : (s r : Plan) → i < end → r ≡ stepOf t s (moveOf (getD ys i noRecord)) → walkOf t (map moveOf (dropped (i + 1) (take end ys))) r ≡ walkOf t (map moveOf (dropped i (take end ys))) s
+  unfolding walkOf
+  one-more s r h e = let l : i < length (take end ys) = omega (arith, looked) in rw (add-one, drop-cons (take end ys) i noRecord l, getD-take end ys i noRecord h, e)
+
+  all-done : (s : Plan) → end ≤ i → walkOf t (map moveOf (dropped i (take end ys))) s ≡ s
+  unfolding walkOf
+  all-done s h = let l : length (take end ys) ≤ i = omega (arith, looked) in rw (drop-of-length-le (take end ys) l)
 
 module _ {M : Type 1} (𝓤 : URA M) (H : Heap 𝓤) (A : Atoms 𝓤) (mem : Memory → SProp 𝓤) (run : Routine → Fun 𝓤) where
-  -- the contract that the proof cites
+  -- the contracts that the proof cites
+  abbrev Ahead : Contract 𝓤
+  Ahead = tripleOf 𝓤 H A ahead.signature (ahead.spec 𝓤 H A mem run)
+
   abbrev Step : Contract 𝓤
   Step = tripleOf 𝓤 H A step.signature (step.spec 𝓤 H A mem run)
 
@@ -104,6 +117,12 @@ module _ {M : Type 1} (𝓤 : URA M) (H : Heap 𝓤) (A : Atoms 𝓤) (W : Given
 
   abbrev n : ℕ
   n = length ys
+
+  abbrev end : ℕ
+  end = aheadOf s₀ n
+
+  low : end ≤ n
+  low = ahead-below s₀ n
 
   abbrev b : ℕ
   b = xl .ptr .0
@@ -153,6 +172,16 @@ module _ {M : Type 1} (𝓤 : URA M) (H : Heap 𝓤) (A : Atoms 𝓤) (W : Given
       move ! (2 ∷ 0 ∷ []) $ fjoin ! $ move ! (1 ∷ 0 ∷ []) $ fjoin ! $ frame ! $
       owned ! S.the-row (Is S.the-row) (LL.makes S.the-type S′.the-plain 𝓤 H A) r _ is $ done !
 
+  -- ---- the call of `ahead`
+  abbrev to-ahead : Ahead 𝓤 H A mem run .Ghost
+  to-ahead = ((tt, tt, tt, (s₀, (n, tt)), (u₀ ∷ [], (vint w64 n ∷ [], tt))), tt)
+
+  goes-ahead : ent 𝓤 (sep 𝓤 (sem 𝓤 H A ftrue) (sem 𝓤 H A (owns (S.the-row ∷ usize ∷ []) (s₀, (n, tt)) (u₀ ∷ [], (vint w64 n ∷ [], tt))))) (Ahead 𝓤 H A mem run .pre to-ahead)
+  goes-ahead = qed W (‵ ftrue ∷ ‵ (owns (S.the-row ∷ usize ∷ []) (s₀, (n, tt)) (u₀ ∷ [], (vint w64 n ∷ [], tt))) ∷ []) ∵ join ! $ frame ! $ done !
+
+  ahead-said : (r : ℕ) → ent 𝓤 (ensured 𝓤 H A ahead.ended (ahead.clauses 𝓤 H A mem run) tt (s₀, (n, tt)) tt r) (fact 𝓤 (r ≡ end))
+  ahead-said r = exE 𝓤 _ (λ ws. snd∗ 𝓤 (sem 𝓤 H A (lasts ahead.ended tt (s₀, (n, tt)) ws)) (fact 𝓤 (r ≡ end)))
+
   -- ---- the call of a turn: state s with machine value u, the record m, the place i
   module _ (s : Plan) (u : Val) (m : MoveRecord) where
     abbrev passed : Vals step.signature (κ′, tt)
@@ -180,15 +209,15 @@ module _ {M : Type 1} (𝓤 : URA M) (H : Heap 𝓤) (A : Atoms 𝓤) (W : Given
     said r = exE 𝓤 _ (λ ws. snd∗ 𝓤 (sem 𝓤 H A (lasts step.ended (κ′, tt) args ws)) (fact 𝓤 (r ≡ stepOf ts s (moveOf m))))
 
   abbrev X : Type 0
-  X = Upto ts ys s₀
+  X = Upto ts ys end s₀
 
   abbrev Nearer : X → X → Type 0
-  Nearer j k = n - j .i < n - k .i
+  Nearer j k = end - j .i < end - k .i
 
   Nearer-wf : WellFounded Nearer
-  Nearer-wf = InvImage·wf (λ (k : X). n - k .i) (Nat·lt-wfRel .wf)
+  Nearer-wf = InvImage·wf (λ (k : X). end - k .i) (Nat·lt-wfRel .wf)
 
-  module _ (𝓣 : Tables 𝓤 H) (known : Triple 𝓤 (𝓣 .C #step-record) (Step 𝓤 H A mem run)) (l₀ l₁ l₂ l₃ l₄ l₅ l₆ l₇ l₈ l₉ : ℕ) where
+  module _ (𝓣 : Tables 𝓤 H) (known : Triple 𝓤 (𝓣 .C #step-record) (Step 𝓤 H A mem run)) (l₀ l₁ l₂ l₃ l₄ l₅ l₆ l₇ l₈ l₉ l₁₀ l₁₁ : ℕ) where
     abbrev C : Calls 𝓤 H
     C = 𝓣 .C
 
@@ -202,96 +231,107 @@ module _ {M : Type 1} (𝓤 : URA M) (H : Heap 𝓤) (A : Atoms 𝓤) (W : Given
     tyT = sliceTy (tyRef (named 1) imm (tyInt w32))
 
     abbrev En : Env 𝓤 H
-    En = (S′.mir, l₀) ∷ (tyL, l₁) ∷ (tyT, l₂) ∷ (S′.mir, l₃) ∷ (S′.mir, l₄) ∷ (tyInt w64, l₅) ∷ (tyInt w64, l₆) ∷ (tyBool, l₇) ∷ (tyPtr, l₈) ∷ (T′.mir, l₉) ∷ []
+    En = (S′.mir, l₀) ∷ (tyL, l₁) ∷ (tyT, l₂) ∷ (S′.mir, l₃) ∷ (tyInt w64, l₄) ∷ (S′.mir, l₅) ∷ (tyInt w64, l₆) ∷ (tyInt w64, l₇) ∷ (tyBool, l₈) ∷ (tyInt w64, l₉) ∷ (tyPtr, l₁₀) ∷ (T′.mir, l₁₁) ∷ []
 
-    -- [_9; …; _8; …; _7; …; _6; …; _5 = i; …; _4 = the state; …; _3; …; _2; …; _1; …; room for _0; …; the list; its token; the table; its token]
+    -- [_11; …; _10; …; _9; …; _8; …; _7; …; _6 = i; …; _5 = the state; …; _4 = the end; …; _3; …; _2; …; _1; …; room for _0; …; the list; its token; the table; its token]
     abbrev At : X → List (Item 𝓤)
-    At k = ‵ (froom T′.mir l₉ 0) ∷ ‵ (fdies T′.mir l₉) ∷ ‵ (froom tyPtr l₈ 0) ∷ ‵ (fdies tyPtr l₈) ∷ ‵ (froom tyBool l₇ 0) ∷ ‵ (fdies tyBool l₇) ∷ ‵ (froom (tyInt w64) l₆ 0) ∷ ‵ (fdies (tyInt w64) l₆)
-        ∷ ‵ (fat fullShare (tyInt w64) l₅ 0 (vint w64 (k .i))) ∷ ‵ (fdies (tyInt w64) l₅) ∷ ‵ (fat fullShare S′.mir l₄ 0 (k .u)) ∷ ‵ (fdies S′.mir l₄) ∷ ‵ (fat fullShare S′.mir l₃ 0 u₀) ∷ ‵ (fdies S′.mir l₃)
+    At k = ‵ (froom T′.mir l₁₁ 0) ∷ ‵ (fdies T′.mir l₁₁) ∷ ‵ (froom tyPtr l₁₀ 0) ∷ ‵ (fdies tyPtr l₁₀) ∷ ‵ (froom (tyInt w64) l₉ 0) ∷ ‵ (fdies (tyInt w64) l₉) ∷ ‵ (froom tyBool l₈ 0) ∷ ‵ (fdies tyBool l₈)
+        ∷ ‵ (fat fullShare (tyInt w64) l₇ 0 (vint w64 n)) ∷ ‵ (fdies (tyInt w64) l₇) ∷ ‵ (fat fullShare (tyInt w64) l₆ 0 (vint w64 (k .i))) ∷ ‵ (fdies (tyInt w64) l₆)
+        ∷ ‵ (fat fullShare S′.mir l₅ 0 (k .u)) ∷ ‵ (fdies S′.mir l₅) ∷ ‵ (fat fullShare (tyInt w64) l₄ 0 (vint w64 end)) ∷ ‵ (fdies (tyInt w64) l₄) ∷ ‵ (fat fullShare S′.mir l₃ 0 u₀) ∷ ‵ (fdies S′.mir l₃)
         ∷ ‵ (fat fullShare tyT l₂ 0 vt) ∷ ‵ (fdies tyT l₂) ∷ ‵ (fat fullShare tyL l₁ 0 vl) ∷ ‵ (fdies tyL l₁) ∷ ‵ (froom S′.mir l₀ 0) ∷ ‵ (fdies S′.mir l₀) ∷ Ownings
 
     -- a turn's postcondition: it ends nearer to the end, or the loop is left and the rest of the body runs
     abbrev Turned : X → Out → SProp 𝓤
-    Turned k = afterTurn 𝓤 H (Below 𝓤 H A Nearer At k) (afterBlock 𝓤 H (afterSeq 𝓤 H (Wp 𝓤 H C Λ En mir.t-4 (atReturn 𝓤 H En Post)) (atReturn 𝓤 H En Post)))
+    Turned k = afterTurn 𝓤 H (Below 𝓤 H A Nearer At k) (afterBlock 𝓤 H (afterSeq 𝓤 H (Wp 𝓤 H C Λ En mir.t-6 (atReturn 𝓤 H En Post)) (atReturn 𝓤 H En Post)))
 
     fits : (k : X) → k .i < 2 ^ 64
-    fits k = lt-of-le-of-lt (k .le) (gn .0)
+    fits k = lt-of-le-of-lt (k .le) (lt-of-le-of-lt low (gn .0))
 
-    next : (k : X) → k .i < n → (r : Plan) (u : Val) → Is S.the-row r (u ∷ []) → r ≡ stepOf ts (k .s) (moveOf (getD ys (k .i) noRecord)) → X
-    next k less r u is e = record { i = k .i + 1; s = r; u = u; le = add-one-le less; is = is; so = one-more ts ys (k .i) (k .s) r less e ∙ k .so }
+    next : (k : X) → k .i < end → (r : Plan) (u : Val) → Is S.the-row r (u ∷ []) → r ≡ stepOf ts (k .s) (moveOf (getD ys (k .i) noRecord)) → X
+    next k less r u is e = record { i = k .i + 1; s = r; u = u; le = add-one-le less; is = is; so = one-more ts ys end low (k .i) (k .s) r less e ∙ k .so }
 
     -- a turn, by the test: it takes the record at i, or it leaves the loop and the rest of the body runs
-    turn-at : (k : X) (t : Bool) → ltb (k .i) n ≡ t → Sq W (At k) (runs C Λ En mir.turn-1 (anyQ (Turned k)))
+    turn-at : (k : X) (t : Bool) → ltb (k .i) end ≡ t → Sq W (At k) (runs C Λ En mir.turn-1 (anyQ (Turned k)))
     unfolding afterTurn next
     turn-at k true e =
-        assigns ! (of-opd ! (load ! (from ! (fld ! refl (stop !))) (look-in ! 16 (sub ! 1 refl (whole !))))) (from ! (stop !)) (init ! 6 refl (tt, record { fits = gn .0 })) $
-        assigns ! (bin ! (load ! (from ! (stop !)) (look ! 8 refl)) (load ! (from ! (stop !)) (look ! 6 refl)) tt) (from ! (stop !)) (init ! 4 refl (tt, tt)) $
-        rewrite ! 4 (λ (t : Bool). ‵ (fat fullShare tyBool l₇ 0 (vbool t))) e refl $ stays ! (load ! (from ! (stop !)) (look ! 4 refl)) $
-        assigns ! (bin ! (load ! (from ! (stop !)) (look ! 8 refl)) (lit ! tt) (record { fits = offset-fits (gn .1) less })) (from ! (stop !)) (store ! 6 refl (tt, record { fits = offset-fits (gn .1) less })) $
-        assigns ! (bin ! (load ! (from ! (fld ! refl (stop !))) (look-in ! 16 (sub ! 0 refl (whole !)))) (load ! (from ! (stop !)) (look ! 6 refl)) tt) (from ! (stop !)) (init ! 2 refl (tt, tt)) $
-        rewrite ! 2 (λ (p : ℕ). ‵ (fat fullShare tyPtr l₈ 0 (vptr b p))) (sym (place-is 32 o (k .i))) refl $
-        move ! (20 ∷ []) $ fsplit ! $ move ! (1 ∷ []) $ fsplit ! $ move ! (1 ∷ 23 ∷ []) $
-        looks-slice ! tt T.the-row (Is T.the-row) (shows 𝓤 H A T.the-row) vals (LL.tells T.the-type T′.the-laws) (LL.copy T.the-type T′.the-copy 𝓤 H A W) ys b o (λ q″. elem-out ! T.the-row (Is T.the-row) (shows 𝓤 H A T.the-row) vals (LL.tells T.the-type T′.the-laws) q″ ys (k .i) noRecord b o less (λ im.
-        -- [list[i]; what it owns; the others; what shuts; the fractured borrow; res; the list's fact; _9; …; _8; …; …]
+        assigns ! (bin ! (load ! (from ! (stop !)) (look ! 10 refl)) (load ! (from ! (stop !)) (look ! 14 refl)) tt) (from ! (stop !)) (init ! 6 refl (tt, tt)) $
+        rewrite ! 6 (λ (t : Bool). ‵ (fat fullShare tyBool l₈ 0 (vbool t))) e refl $ stays ! (load ! (from ! (stop !)) (look ! 6 refl)) $
+        assigns ! (bin ! (load ! (from ! (stop !)) (look ! 10 refl)) (lit ! tt) (record { fits = offset-fits (gn .1) there })) (from ! (stop !)) (init ! 4 refl (tt, record { fits = offset-fits (gn .1) there })) $
+        assigns ! (bin ! (load ! (from ! (fld ! refl (stop !))) (look-in ! 20 (sub ! 0 refl (whole !)))) (load ! (from ! (stop !)) (look ! 4 refl)) tt) (from ! (stop !)) (init ! 2 refl (tt, tt)) $
+        rewrite ! 2 (λ (p : ℕ). ‵ (fat fullShare tyPtr l₁₀ 0 (vptr b p))) (sym (place-is 32 o (k .i))) refl $
+        move ! (24 ∷ []) $ fsplit ! $ move ! (1 ∷ []) $ fsplit ! $ move ! (1 ∷ 27 ∷ []) $
+        looks-slice ! tt T.the-row (Is T.the-row) (shows 𝓤 H A T.the-row) vals (LL.tells T.the-type T′.the-laws) (LL.copy T.the-type T′.the-copy 𝓤 H A W) ys b o (λ q″. elem-out ! T.the-row (Is T.the-row) (shows 𝓤 H A T.the-row) vals (LL.tells T.the-type T′.the-laws) q″ ys (k .i) noRecord b o there (λ im.
+        -- [list[i]; what it owns; the others; what shuts; the fractured borrow; res; the list's fact; _11; …; _10; …; …]
         assigns ! (of-opd ! (load ! (from ! (hop ! (look ! 9 refl) (stop !))) (look-raw ! 0 refl))) (from ! (stop !)) (init ! 7 refl (LL.lawful T.the-type T′.the-laws 𝓤 H A W .typed m _ im .0)) $
-        elem-back ! T.the-row q″ ys (k .i) noRecord (vals m) b o less $ shuts-slice ! tt T.the-row q″ ys b o $
+        elem-back ! T.the-row q″ ys (k .i) noRecord (vals m) b o there $ shuts-slice ! tt T.the-row q″ ys b o $
         move ! (2 ∷ 1 ∷ []) $ fjoin ! $ move ! (2 ∷ 0 ∷ []) $ fjoin ! $
-        -- [the list; its token; _9; …; the table; its token]
-        move ! (23 ∷ 22 ∷ []) $ use2 W (raw (Step 𝓤 H A mem run .pre (to (k .s) (k .u) m)) ⊛ ‵ OwnT) (apart (k .s) (k .u) m (k .is) im) $ split ! $
+        -- [the list; its token; _11; …; the table; its token]
+        move ! (27 ∷ 26 ∷ []) $ use2 W (raw (Step 𝓤 H A mem run .pre (to (k .s) (k .u) m)) ⊛ ‵ OwnT) (apart (k .s) (k .u) m (k .is) im) $ split ! $
         calls-at ! (fmOf 𝓤 H (W .laws) 𝓣) (Step 𝓤 H A mem run) known (to (k .s) (k .u) m)
-        (and-then ! (load ! (from ! (stop !)) (look ! 18 refl)) (and-then ! (load ! (from ! (stop !)) (look ! 14 refl)) (and-then ! (load ! (from ! (stop !)) (look ! 4 refl)) (no-more !)))) (λ u.
+        (and-then ! (load ! (from ! (stop !)) (look ! 22 refl)) (and-then ! (load ! (from ! (stop !)) (look ! 16 refl)) (and-then ! (load ! (from ! (stop !)) (look ! 4 refl)) (no-more !)))) (λ u.
         use1 W (later (some (λ (r : Plan). ((‵ (flft κ′ q′) ⊛ ‵ ftrue) ⊛ ‵ (S.the-row .own r (u ∷ []))) ⊛ raw (ensured 𝓤 H A step.ended (step.clauses 𝓤 H A mem run) (κ′, tt) (args (k .s) (k .u) m) tt r)))) (id⊢ 𝓤 _) $ await ! tt $ pick ! (λ r.
         split ! $ move ! (1 ∷ []) $ use1 W (raw (fact 𝓤 (r ≡ stepOf ts (k .s) (moveOf m)))) (said (k .s) (k .u) m r) $ heard ! (r ≡ stepOf ts (k .s) (moveOf m)) (λ e. split ! $ move ! (1 ∷ []) $
         facts ! S.the-row (Is S.the-row) (shows 𝓤 H A S.the-row) r (u ∷ []) (λ is.
-        -- [the table's token; the table; the list; its token; _9; …]
-        land ! (from ! (stop !)) (store ! 14 refl (LL.lawful S.the-type S′.the-laws 𝓤 H A W .typed r _ is .0)) $
-        assigns-last ! (bin ! (load ! (from ! (stop !)) (look ! 12 refl)) (lit ! tt) (record { fits = fits (next k less r u is e) })) (from ! (stop !)) (store ! 12 refl (tt, record { fits = fits (next k less r u is e) })) $
+        -- [the table's token; the table; the list; its token; _11; …]
+        land ! (from ! (stop !)) (store ! 16 refl (LL.lawful S.the-type S′.the-laws 𝓤 H A W .typed r _ is .0)) $
+        assigns-last ! (bin ! (load ! (from ! (stop !)) (look ! 14 refl)) (lit ! tt) (record { fits = fits (next k less r u is e) })) (from ! (stop !)) (store ! 14 refl (tt, record { fits = fits (next k less r u is e) })) $
         forget ! 4 refl $ forget ! 6 refl $ forget ! 8 refl $ forget ! 10 refl $ split ! $
-        keep ! (5 ∷ 6 ∷ 7 ∷ 8 ∷ 9 ∷ 10 ∷ 11 ∷ 12 ∷ 13 ∷ 14 ∷ 15 ∷ 16 ∷ 17 ∷ 18 ∷ 19 ∷ 20 ∷ 21 ∷ 22 ∷ 23 ∷ 24 ∷ 3 ∷ 4 ∷ 2 ∷ 0 ∷ []) $
-        again ! Nearer At k (next k less r u is e) (add-one-dec n (k .i) less)))))))
+        keep ! (5 ∷ 6 ∷ 7 ∷ 8 ∷ 9 ∷ 10 ∷ 11 ∷ 12 ∷ 13 ∷ 14 ∷ 15 ∷ 16 ∷ 17 ∷ 18 ∷ 19 ∷ 20 ∷ 21 ∷ 22 ∷ 23 ∷ 24 ∷ 25 ∷ 26 ∷ 27 ∷ 28 ∷ 3 ∷ 4 ∷ 2 ∷ 0 ∷ []) $
+        again ! Nearer At k (next k less r u is e) (add-one-dec end (k .i) less)))))))
       where
-        less : k .i < n
-        less = ltb-true (k .i) n e
+        less : k .i < end
+        less = ltb-true (k .i) end e
+
+        there : k .i < n
+        there = lt-of-lt-of-le less low
 
         m : MoveRecord
         m = getD ys (k .i) noRecord
     turn-at k false e =
-        assigns ! (of-opd ! (load ! (from ! (fld ! refl (stop !))) (look-in ! 16 (sub ! 1 refl (whole !))))) (from ! (stop !)) (init ! 6 refl (tt, record { fits = gn .0 })) $
-        assigns ! (bin ! (load ! (from ! (stop !)) (look ! 8 refl)) (load ! (from ! (stop !)) (look ! 6 refl)) tt) (from ! (stop !)) (init ! 4 refl (tt, tt)) $
-        rewrite ! 4 (λ (t : Bool). ‵ (fat fullShare tyBool l₇ 0 (vbool t))) e refl $ leaves-loop ! (load ! (from ! (stop !)) (look ! 4 refl)) $ exec ! C Λ En mir.t-4 (atRet En Post) $
-        assigns ! (of-opd ! (load ! (from ! (stop !)) (look ! 10 refl))) (from ! (stop !)) (init ! 18 refl (LL.lawful S.the-type S′.the-laws 𝓤 H A W .typed (k .s) _ (k .is) .0)) $
-        returns ! (look ! 18 refl) $ forget ! 4 refl $ forget ! 6 refl $ forget ! 8 refl $ forget ! 10 refl $ forget ! 12 refl $ forget ! 14 refl $ forget ! 16 refl $ forget ! 18 refl $
-        move ! (18 ∷ 19 ∷ []) $ free1 ! $ move ! (16 ∷ 17 ∷ []) $ free1 ! $ move ! (14 ∷ 15 ∷ []) $ free1 ! $ move ! (12 ∷ 13 ∷ []) $ free1 ! $ move ! (10 ∷ 11 ∷ []) $ free1 ! $
-        move ! (8 ∷ 9 ∷ []) $ free1 ! $ move ! (6 ∷ 7 ∷ []) $ free1 ! $ move ! (4 ∷ 5 ∷ []) $ free1 ! $ move ! (2 ∷ 3 ∷ []) $ free1 ! $ free1 ! $ free0 ! $
-        by ! (exits (k .s) (k .u) (k .is) (sym (all-done ts ys (k .i) (k .s) (ltb-false (k .i) n e)) ∙ k .so))
+        assigns ! (bin ! (load ! (from ! (stop !)) (look ! 10 refl)) (load ! (from ! (stop !)) (look ! 14 refl)) tt) (from ! (stop !)) (init ! 6 refl (tt, tt)) $
+        rewrite ! 6 (λ (t : Bool). ‵ (fat fullShare tyBool l₈ 0 (vbool t))) e refl $ leaves-loop ! (load ! (from ! (stop !)) (look ! 6 refl)) $ exec ! C Λ En mir.t-6 (atRet En Post) $
+        assigns ! (of-opd ! (load ! (from ! (stop !)) (look ! 12 refl))) (from ! (stop !)) (init ! 22 refl (LL.lawful S.the-type S′.the-laws 𝓤 H A W .typed (k .s) _ (k .is) .0)) $
+        returns ! (look ! 22 refl) $ forget ! 6 refl $ forget ! 8 refl $ forget ! 10 refl $ forget ! 12 refl $ forget ! 14 refl $ forget ! 16 refl $ forget ! 18 refl $ forget ! 20 refl $ forget ! 22 refl $
+        move ! (22 ∷ 23 ∷ []) $ free1 ! $ move ! (20 ∷ 21 ∷ []) $ free1 ! $ move ! (18 ∷ 19 ∷ []) $ free1 ! $ move ! (16 ∷ 17 ∷ []) $ free1 ! $ move ! (14 ∷ 15 ∷ []) $ free1 ! $ move ! (12 ∷ 13 ∷ []) $ free1 ! $
+        move ! (10 ∷ 11 ∷ []) $ free1 ! $ move ! (8 ∷ 9 ∷ []) $ free1 ! $ move ! (6 ∷ 7 ∷ []) $ free1 ! $ move ! (4 ∷ 5 ∷ []) $ free1 ! $ move ! (2 ∷ 3 ∷ []) $ free1 ! $ free1 ! $ free0 ! $
+        by ! (exits (k .s) (k .u) (k .is) (sym (all-done ts ys end low (k .i) (k .s) (ltb-false (k .i) end e)) ∙ k .so ∙ records-stop ts ys s₀))
 
     turns : (k : X) → Sq W (At k) (runs C Λ En mir.turn-1 (anyQ (Turned k)))
-    turns k = turn-at k (ltb (k .i) n) refl
+    turns k = turn-at k (ltb (k .i) end) refl
 
     -- the loop, and the rest of the body
-    looped : Sq W (At (record { i = 0; s = s₀; u = u₀; le = zero-le; is = is₀; so = refl })) (runs C Λ En mir.t-3 (atRet En Post))
+    looped : Sq W (At (record { i = 0; s = s₀; u = u₀; le = zero-le; is = is₀; so = refl })) (runs C Λ En mir.t-5 (atRet En Post))
     looped = first ! $ blocks ! $ loops ! 𝓣 Nearer Nearer-wf At turns (record { i = 0; s = s₀; u = u₀; le = zero-le; is = is₀; so = refl })
 
-  walk : (𝓣 : Tables 𝓤 H) → Triple 𝓤 (𝓣 .C #step-record) (Step 𝓤 H A mem run) → ent 𝓤 (onEntry 𝓤 H A f.signature κs (q, (q′, tt)) x at) (WpFn 𝓤 H (𝓣 .C) (𝓣 .Λ) code.function (vl ∷ vt ∷ u₀ ∷ []) Post)
-  walk 𝓣 known =
+  walk : (𝓣 : Tables 𝓤 H) → Triple 𝓤 (𝓣 .C #ahead) (Ahead 𝓤 H A mem run) → Triple 𝓤 (𝓣 .C #step-record) (Step 𝓤 H A mem run) → ent 𝓤 (onEntry 𝓤 H A f.signature κs (q, (q′, tt)) x at) (WpFn 𝓤 H (𝓣 .C) (𝓣 .Λ) code.function (vl ∷ vt ∷ u₀ ∷ []) Post)
+  walk 𝓣 known-ahead known =
       qed W ((‵ (flft κ q) ⊛ ‵ (flft κ′ q′) ⊛ ‵ ftrue) ∷ ‵ (owns (ShrSlice (named 0) κ T.the-row ∷ ShrSlice (named 1) κ′ i32 ∷ S.the-row ∷ []) x at) ∷ []) ∵ enter ! (𝓣 .C) (𝓣 .Λ) code.function (vl ∷ vt ∷ u₀ ∷ []) _ $
-      alloc1 ! (λ l₀. alloc1 ! (λ l₁. alloc1 ! (λ l₂. alloc1 ! (λ l₃. alloc1 ! (λ l₄. alloc1 ! (λ l₅. alloc1 ! (λ l₆. alloc1 ! (λ l₇. alloc1 ! (λ l₈. alloc1 ! (λ l₉. alloc0 ! $ params1 ! $
-      pass1 ! (init ! 16 refl (tt, (tt, (record { fits = gn .0 }, tt)))) $ pass1 ! (init ! 14 refl (tt, (tt, (record { fits = gt .0 }, tt)))) $ pass1 ! (init ! 12 refl (typed₀)) $ pass0 ! $
-      assigns ! (of-opd ! (load ! (from ! (stop !)) (look ! 12 refl))) (from ! (stop !)) (init ! 10 refl typed₀) $
-      assigns ! (of-opd ! (lit ! tt)) (from ! (stop !)) (init ! 8 refl (tt, record { fits = lit< tt })) $
-      move ! (21 ∷ []) $ fsplit ! $ move ! (1 ∷ []) $ fsplit ! $ move ! (23 ∷ []) $ split ! $ move ! (1 ∷ []) $ split ! $
-      -- [the table's token; true; the list's token; the table; s₀; the list; _9; …]
-      keep ! (6 ∷ 7 ∷ 8 ∷ 9 ∷ 10 ∷ 11 ∷ 12 ∷ 13 ∷ 14 ∷ 15 ∷ 16 ∷ 17 ∷ 18 ∷ 19 ∷ 20 ∷ 21 ∷ 22 ∷ 23 ∷ 24 ∷ 25 ∷ 5 ∷ 2 ∷ 3 ∷ 0 ∷ []) $
-      looped 𝓣 known l₀ l₁ l₂ l₃ l₄ l₅ l₆ l₇ l₈ l₉))))))))))
+      alloc1 ! (λ l₀. alloc1 ! (λ l₁. alloc1 ! (λ l₂. alloc1 ! (λ l₃. alloc1 ! (λ l₄. alloc1 ! (λ l₅. alloc1 ! (λ l₆. alloc1 ! (λ l₇. alloc1 ! (λ l₈. alloc1 ! (λ l₉. alloc1 ! (λ l₁₀. alloc1 ! (λ l₁₁. alloc0 ! $ params1 ! $
+      pass1 ! (init ! 20 refl (tt, (tt, (record { fits = gn .0 }, tt)))) $ pass1 ! (init ! 18 refl (tt, (tt, (record { fits = gt .0 }, tt)))) $ pass1 ! (init ! 16 refl (typed₀)) $ pass0 ! $
+      assigns ! (of-opd ! (load ! (from ! (fld ! refl (stop !))) (look-in ! 20 (sub ! 1 refl (whole !))))) (from ! (stop !)) (init ! 8 refl (tt, record { fits = gn .0 })) $
+      nothing ! $ nothing ! $ owned ! usize (Is usize) (uint-makes 𝓤 H A W w64) n _ (refl, gn .0) $ fjoin ! $ owned ! S.the-row (Is S.the-row) (LL.makes S.the-type S′.the-plain 𝓤 H A) s₀ _ is₀ $ fjoin ! $
+      move ! (1 ∷ 0 ∷ []) $ use2 W (raw (Ahead 𝓤 H A mem run .pre to-ahead)) goes-ahead $
+      calls-at ! (fmOf 𝓤 H (W .laws) 𝓣) (Ahead 𝓤 H A mem run) known-ahead to-ahead (and-then ! (load ! (from ! (stop !)) (look ! 17 refl)) (and-then ! (load ! (from ! (stop !)) (look ! 9 refl)) (no-more !))) (λ v.
+      use1 W (later (some (λ (r : ℕ). (‵ ftrue ⊛ ‵ (usize .own r (v ∷ []))) ⊛ raw (ensured 𝓤 H A ahead.ended (ahead.clauses 𝓤 H A mem run) tt (s₀, (n, tt)) tt r)))) (id⊢ 𝓤 _) $ await ! tt $ pick ! (λ r.
+      split ! $ move ! (1 ∷ []) $ use1 W (raw (fact 𝓤 (r ≡ end))) (ahead-said r) $ heard ! (r ≡ end) (λ e. split ! $ move ! (1 ∷ []) $ facts ! usize (Is usize) (shows 𝓤 H A usize) r (v ∷ []) (λ is.
+      land ! (from ! (stop !)) (init ! 15 refl (uint-lawful 𝓤 H A W w64 .typed r _ is .0)) $ drop ! $
+      rewrite ! 14 (λ (w : Val). ‵ (fat fullShare (tyInt w64) l₄ 0 w)) (ap only (is .0) ∙ ap (vint w64) e) refl $
+      assigns ! (of-opd ! (load ! (from ! (stop !)) (look ! 16 refl))) (from ! (stop !)) (init ! 12 refl typed₀) $
+      assigns ! (of-opd ! (lit ! tt)) (from ! (stop !)) (init ! 10 refl (tt, record { fits = lit< tt })) $
+      move ! (25 ∷ []) $ fsplit ! $ move ! (1 ∷ []) $ fsplit ! $ move ! (27 ∷ []) $ split ! $ move ! (1 ∷ []) $ split ! $
+      -- [the table's token; true; the list's token; the table; s₀; the list; _11; …]
+      keep ! (6 ∷ 7 ∷ 8 ∷ 9 ∷ 10 ∷ 11 ∷ 12 ∷ 13 ∷ 14 ∷ 15 ∷ 16 ∷ 17 ∷ 18 ∷ 19 ∷ 20 ∷ 21 ∷ 22 ∷ 23 ∷ 24 ∷ 25 ∷ 26 ∷ 27 ∷ 28 ∷ 29 ∷ 5 ∷ 2 ∷ 3 ∷ 0 ∷ []) $
+      looped 𝓣 known l₀ l₁ l₂ l₃ l₄ l₅ l₆ l₇ l₈ l₉ l₁₀ l₁₁))))))))))))))))
     where
       typed₀ : Holds (hasTy S′.mir u₀) × WT u₀
       typed₀ = LL.lawful S.the-type S′.the-laws 𝓤 H A W .typed s₀ _ is₀ .0
 
-module _ {M : Type 1} (𝓤 : URA M) (H : Heap 𝓤) (A : Atoms 𝓤) (W : Given 𝓤 H A) (mem : Memory → SProp 𝓤) (run : Routine → Fun 𝓤) (𝓣 : Tables 𝓤 H) (known : Triple 𝓤 (𝓣 .C #step-record) (Step 𝓤 H A mem run)) where
+module _ {M : Type 1} (𝓤 : URA M) (H : Heap 𝓤) (A : Atoms 𝓤) (W : Given 𝓤 H A) (mem : Memory → SProp 𝓤) (run : Routine → Fun 𝓤) (𝓣 : Tables 𝓤 H)
+    (known-ahead : Triple 𝓤 (𝓣 .C #ahead) (Ahead 𝓤 H A mem run)) (known : Triple 𝓤 (𝓣 .C #step-record) (Step 𝓤 H A mem run)) where
   walks : Walks 𝓤 H A f.ended stayed (WpFn 𝓤 H (𝓣 .C) (𝓣 .Λ) code.function) (f.clauses 𝓤 H A mem run)
   walks = walked 𝓤 H A f.ended stayed (f.clauses 𝓤 H A mem run) (WpFn 𝓤 H (𝓣 .C) (𝓣 .Λ) code.function)
       (λ κs. (slice-vals, (slice-vals, (LL.vals S.the-type S′.the-laws, tt)))) (λ κs. (shr-slice-tells (named 0) (κs .0) T.the-row, (shr-slice-tells (named 1) (κs .1 .0) i32, (LL.tells S.the-type S′.the-laws, tt))))
-      (λ κs qs bounds a g are. via 𝓤 _ (fst∗ 𝓤 _ (emp 𝓤)) (walk 𝓤 H A W mem run (κs .0) (κs .1 .0) (qs .0) (qs .1 .0) (a .0) (a .1 .0) (a .1 .1 .0) _ (are .0 .0 .1) (are .1 .0 .0 .1) (are .1 .1 .0) 𝓣 known))
+      (λ κs qs bounds a g are. via 𝓤 _ (fst∗ 𝓤 _ (emp 𝓤)) (walk 𝓤 H A W mem run (κs .0) (κs .1 .0) (qs .0) (qs .1 .0) (a .0) (a .1 .0) (a .1 .1 .0) _ (are .0 .0 .1) (are .1 .0 .0 .1) (are .1 .1 .0) 𝓣 known-ahead known))
 
   meets : Meets 𝓤 H A f.signature (WpFn 𝓤 H (𝓣 .C) (𝓣 .Λ) code.function) (f.spec 𝓤 H A mem run)
   meets =
@@ -305,4 +345,5 @@ walk-records-spec 𝓤 H 𝓜 𝓖 𝓡 =
     entered 𝓤 H (tripleOf 𝓤 H (𝓖 .A) f.signature (f.spec 𝓤 H (𝓖 .A) (𝓜 .mem) (𝓡 .run)))
     (tables 𝓤 H 𝓜 𝓡 code.env .C) (tables 𝓤 H 𝓜 𝓡 code.env .Λ) #walk-records code.function (code.unfolded 𝓤 H 𝓜 𝓡)
     (meets 𝓤 H (𝓖 .A) (givenOf 𝓤 H 𝓜 𝓖) (𝓜 .mem) (𝓡 .run) (tablesOf 𝓤 H 𝓜 (tables 𝓤 H 𝓜 𝓡 code.env))
+    (cited 𝓤 H (Ahead 𝓤 H (𝓖 .A) (𝓜 .mem) (𝓡 .run)) 𝓜 𝓡 code.env #ahead ahead-def.routine code.calls-plan·list·ahead (ahead-thm.met 𝓤 H 𝓜 𝓖 𝓡))
     (cited 𝓤 H (Step 𝓤 H (𝓖 .A) (𝓜 .mem) (𝓡 .run)) 𝓜 𝓡 code.env #step-record step-def.routine code.calls-move-records·step-record (step-thm.met 𝓤 H 𝓜 𝓖 𝓡)))

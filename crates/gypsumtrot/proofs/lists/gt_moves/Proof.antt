@@ -42,18 +42,18 @@ use denote.Triple.Table.{entered, cited}
 use denote.Triple.Clauses.{ensured, lasts}
 use denote.Triple.Walked.{says, Stays, stay-none-slice, stay-none, gave-slice, walkOf as walkTriple, Walks, ends-at, walked, goes-none-slice, goes-none, goes-gave-slice, walk-meets}
 use Rattle.rings.specs.Paper.{paperAmount}
-use Rattle.plan.specs.Plan.{Fair, emptyPlan, walkOf}
+use Rattle.plan.specs.Plan.{Fair, walkOf}
 use Rattle.moves.specs.Apply.{applyPositions, applyMap}
-use Rattle.moves.specs.Settle.{settleAnswer, settlePositions, settleMap}
+use Rattle.moves.specs.Settle.{firstPlan, settleAnswer, settlePositions, settleMap}
 use Rattle.plan.specs.declared.Plan.{Plan}
-use Rattle.plan.proofs.FairPlans.{walk-fair}
+use Rattle.moves.proofs.Settled.{list-fair}
 use Rattle.plan.proofs.Shared.{LentShared, lends-shared, shared-back}
 use Rattle.plan.proofs.Plan as S
 use Rattle.plan.proofs.Plan.Laws as S′
-use Rattle.plan.proofs.list.opened as opened
-use Rattle.plan.proofs.list.opened.Symbol as opened-def
-use Rattle.plan.proofs.list.opened.Symbol.{name as #opened}
-use Rattle.plan.proofs.list.opened.Met as opened-thm
+use Rattle.moves.proofs.call.first_plan as first
+use Rattle.moves.proofs.call.first_plan.Symbol as first-def
+use Rattle.moves.proofs.call.first_plan.Symbol.{name as #first-plan}
+use Rattle.moves.proofs.call.first_plan.Met as first-thm
 use Rattle.crossing.specs.Crossing.{valuePaper}
 use Rattle.move_records.specs.Records.{movesOf, byKinds, recordsAnswer}
 use Rattle.move_records.specs.declared.MoveRecord.{MoveRecord}
@@ -90,8 +90,8 @@ stayed = (
 
 module _ {M : Type 1} (𝓤 : URA M) (H : Heap 𝓤) (A : Atoms 𝓤) (mem : Memory → SProp 𝓤) (run : Routine → Fun 𝓤) where
   -- the contracts that the proof cites
-  abbrev Opened : Contract 𝓤
-  Opened = tripleOf 𝓤 H A opened.signature (opened.spec 𝓤 H A mem run)
+  abbrev First : Contract 𝓤
+  First = tripleOf 𝓤 H A first.signature (first.spec 𝓤 H A mem run)
 
   abbrev Walked : Contract 𝓤
   Walked = tripleOf 𝓤 H A walk.signature (walk.spec 𝓤 H A mem run)
@@ -173,22 +173,22 @@ module _ {M : Type 1} (𝓤 : URA M) (H : Heap 𝓤) (A : Atoms 𝓤) (W : Given
 
   -- the list's plan
   abbrev listed : Plan
-  listed = walkOf ps (movesOf ms) (emptyPlan n)
+  listed = walkOf ps (movesOf ms) (firstPlan n levels)
 
   -- what the call says of its result and the last lists
   abbrev Applied : ValueAnswer → List ℤ → List ℕ → Type 0
   Applied r zp zm =
       (valuePaper r ≡ recordsAnswer n levels (now xv) (now xr) ps (now xm) ms) × (zp ≡ applyPositions n levels (now xv) (now xr) ps (now xm) (movesOf ms)) × (zm ≡ applyMap n levels (now xv) (now xr) ps (now xm) (movesOf ms))
 
-  -- ---- the call of `opened`
-  abbrev to-opened : Opened 𝓤 H A mem run .Ghost
-  to-opened = ((tt, tt, tt, (n, tt), (vint w64 n ∷ [], tt)), tt)
+  -- ---- the call of `first_plan`
+  abbrev to-first : First 𝓤 H A mem run .Ghost
+  to-first = ((tt, tt, tt, (n, (levels, tt)), (vint w64 n ∷ [], (vint w64 levels ∷ [], tt))), tt)
 
-  goes-opened : ent 𝓤 (sep 𝓤 (sem 𝓤 H A ftrue) (sem 𝓤 H A (owns (usize ∷ []) (n, tt) (vint w64 n ∷ [], tt)))) (Opened 𝓤 H A mem run .pre to-opened)
-  goes-opened = qed W (‵ ftrue ∷ ‵ (owns (usize ∷ []) (n, tt) (vint w64 n ∷ [], tt)) ∷ []) ∵ join ! $ frame ! $ done !
+  goes-first : ent 𝓤 (sep 𝓤 (sem 𝓤 H A ftrue) (sem 𝓤 H A (owns (usize ∷ usize ∷ []) (n, (levels, tt)) (vint w64 n ∷ [], (vint w64 levels ∷ [], tt))))) (First 𝓤 H A mem run .pre to-first)
+  goes-first = qed W (‵ ftrue ∷ ‵ (owns (usize ∷ usize ∷ []) (n, (levels, tt)) (vint w64 n ∷ [], (vint w64 levels ∷ [], tt))) ∷ []) ∵ join ! $ frame ! $ done !
 
-  opened-said : (r : Plan) → ent 𝓤 (ensured 𝓤 H A opened.ended (opened.clauses 𝓤 H A mem run) tt (n, tt) tt r) (fact 𝓤 (r ≡ emptyPlan n))
-  opened-said r = exE 𝓤 _ (λ ws. snd∗ 𝓤 (sem 𝓤 H A (lasts opened.ended tt (n, tt) ws)) (fact 𝓤 (r ≡ emptyPlan n)))
+  first-said : (r : Plan) → ent 𝓤 (ensured 𝓤 H A first.ended (first.clauses 𝓤 H A mem run) tt (n, (levels, tt)) tt r) (fact 𝓤 (r ≡ firstPlan n levels))
+  first-said r = exE 𝓤 _ (λ ws. snd∗ 𝓤 (sem 𝓤 H A (lasts first.ended tt (n, (levels, tt)) ws)) (fact 𝓤 (r ≡ firstPlan n levels)))
 
   -- ---- the call of `walk_records`, with the positions shared for ν under δ, from a plan s with the machine value u
   module _ (ν : ℕ) (δ : GName) (s : Plan) (u : Val) where
@@ -290,9 +290,9 @@ module _ {M : Type 1} (𝓤 : URA M) (H : Heap 𝓤) (A : Atoms 𝓤) (W : Given
       move ! (3 ∷ 0 ∷ []) $ fjoin ! $ move ! (3 ∷ 0 ∷ []) $ fjoin ! $ move ! (2 ∷ 0 ∷ []) $ fjoin ! $ move ! (1 ∷ 0 ∷ []) $ fjoin ! $ frame ! $
       owned ! E.the-row (Is E.the-row) (LL.makes E.the-type E′.the-plain 𝓤 H A) r _ is $ done !
 
-  module _ (C : Calls 𝓤 H) (Λ : Loops 𝓤 H) (fm : FmC 𝓤 H (W .laws) C) (known-opened : Triple 𝓤 (C #opened) (Opened 𝓤 H A mem run)) (known-walk : Triple 𝓤 (C #walk-records) (Walked 𝓤 H A mem run))
+  module _ (C : Calls 𝓤 H) (Λ : Loops 𝓤 H) (fm : FmC 𝓤 H (W .laws) C) (known-first : Triple 𝓤 (C #first-plan) (First 𝓤 H A mem run)) (known-walk : Triple 𝓤 (C #walk-records) (Walked 𝓤 H A mem run))
       (known-settle : Triple 𝓤 (C #settle-records) (Settled 𝓤 H A mem run)) (known-kinds : Triple 𝓤 (C #by-kinds) (Told 𝓤 H A mem run)) where
-    planned-is : {s₀ s₁ : Plan} → s₀ ≡ emptyPlan n → s₁ ≡ walkOf ps (movesOf ms) s₀ → s₁ ≡ listed
+    planned-is : {s₀ s₁ : Plan} → s₀ ≡ firstPlan n levels → s₁ ≡ walkOf ps (movesOf ms) s₀ → s₁ ≡ listed
     planned-is e₀ e₁ = e₁ ∙ ap (walkOf ps (movesOf ms)) e₀
 
     goes : ent 𝓤 (onEntry 𝓤 H A f.signature κs qs x at) (WpFn 𝓤 H C Λ code.function (vv ∷ vr ∷ vp ∷ vm ∷ vint w64 n ∷ vint w64 levels ∷ vl ∷ []) Post)
@@ -307,10 +307,10 @@ module _ {M : Type 1} (𝓤 : URA M) (H : Heap 𝓤) (A : Atoms 𝓤) (W : Given
         -- [t₃; t₂; t₁; t₀; t₄; the map; the positions; the rings; the valences; the list; _17; …]
         assigns ! (addr ! (from ! (fld ! refl (hop ! (look-in ! 38 (sub ! 0 refl (whole !))) (stop !))))) (from ! (stop !)) (init ! 24 refl (tt, tt)) $
         assigns ! (agg ! (and-then ! (load ! (from ! (stop !)) (look ! 24 refl)) (and-then ! (load ! (from ! (fld ! refl (stop !))) (look-in ! 38 (sub ! 1 refl (whole !)))) (no-more !)))) (from ! (stop !)) (init ! 22 refl (tt, (tt, (record { fits = gp .0 }, tt)))) $
-        nothing ! $ nothing ! $ owned ! usize (Is usize) (uint-makes 𝓤 H A W w64) n _ (refl, n-fits) $ fjoin ! $ move ! (1 ∷ 0 ∷ []) $ use2 W (raw (Opened 𝓤 H A mem run .pre to-opened)) goes-opened $
-        calls-at ! fm (Opened 𝓤 H A mem run) known-opened to-opened (and-then ! (load ! (from ! (stop !)) (look ! 35 refl)) (no-more !)) (λ u₀.
-        use1 W (later (some (λ (s₀ : Plan). (‵ ftrue ⊛ ‵ (S.the-row .own s₀ (u₀ ∷ []))) ⊛ raw (ensured 𝓤 H A opened.ended (opened.clauses 𝓤 H A mem run) tt (n, tt) tt s₀)))) (id⊢ 𝓤 _) $ await ! tt $ pick ! (λ s₀.
-        split ! $ move ! (1 ∷ []) $ use1 W (raw (fact 𝓤 (s₀ ≡ emptyPlan n))) (opened-said s₀) $ heard ! (s₀ ≡ emptyPlan n) (λ e₀. split ! $ move ! (1 ∷ []) $ facts ! S.the-row (Is S.the-row) (shows 𝓤 H A S.the-row) s₀ (u₀ ∷ []) (λ is₀.
+        nothing ! $ nothing ! $ owned ! usize (Is usize) (uint-makes 𝓤 H A W w64) levels _ (refl, levels-fits) $ fjoin ! $ owned ! usize (Is usize) (uint-makes 𝓤 H A W w64) n _ (refl, n-fits) $ fjoin ! $ move ! (1 ∷ 0 ∷ []) $ use2 W (raw (First 𝓤 H A mem run .pre to-first)) goes-first $
+        calls-at ! fm (First 𝓤 H A mem run) known-first to-first (and-then ! (load ! (from ! (stop !)) (look ! 35 refl)) (and-then ! (load ! (from ! (stop !)) (look ! 33 refl)) (no-more !))) (λ u₀.
+        use1 W (later (some (λ (s₀ : Plan). (‵ ftrue ⊛ ‵ (S.the-row .own s₀ (u₀ ∷ []))) ⊛ raw (ensured 𝓤 H A first.ended (first.clauses 𝓤 H A mem run) tt (n, (levels, tt)) tt s₀)))) (id⊢ 𝓤 _) $ await ! tt $ pick ! (λ s₀.
+        split ! $ move ! (1 ∷ []) $ use1 W (raw (fact 𝓤 (s₀ ≡ firstPlan n levels))) (first-said s₀) $ heard ! (s₀ ≡ firstPlan n levels) (λ e₀. split ! $ move ! (1 ∷ []) $ facts ! S.the-row (Is S.the-row) (shows 𝓤 H A S.the-row) s₀ (u₀ ∷ []) (λ is₀.
         land ! (from ! (stop !)) (init ! 21 refl (LL.lawful S.the-type S′.the-laws 𝓤 H A W .typed s₀ _ is₀ .0)) $ drop ! $
         -- [t₃; t₂; t₁; t₀; t₄; the map; the positions; the rings; the valences; the list; _17; …]: the positions are shared for a lifetime ν of the walk
         lft-new ! tt (λ ν. move ! (7 ∷ 2 ∷ []) $
@@ -332,7 +332,7 @@ module _ {M : Type 1} (𝓤 : URA M) (H : Heap 𝓤) (A : Atoms 𝓤) (W : Given
         assigns ! (addr ! (from ! (fld ! refl (hop ! (look-in ! 36 (sub ! 0 refl (whole !))) (stop !))))) (from ! (stop !)) (init ! 12 refl (tt, tt)) $
         assigns ! (agg ! (and-then ! (load ! (from ! (stop !)) (look ! 12 refl)) (and-then ! (load ! (from ! (fld ! refl (stop !))) (look-in ! 36 (sub ! 1 refl (whole !)))) (no-more !)))) (from ! (stop !)) (init ! 10 refl (tt, (tt, (record { fits = gm .0 }, tt)))) $
         move ! (0 ∷ 7 ∷ []) $ join ! $ move ! (7 ∷ 0 ∷ []) $ join ! $ move ! (7 ∷ 0 ∷ []) $ join ! $ move ! (4 ∷ 0 ∷ []) $ join ! $ move ! (1 ∷ 0 ∷ []) $ join ! $ move ! (3 ∷ 0 ∷ []) $ join ! $ move ! (3 ∷ 0 ∷ []) $ join ! $
-        use1 W (raw (Settled 𝓤 H A mem run .pre (to-settle s₁ u₁)) ⊛ (‵ OwnV ⊛ ‵ OwnR)) (goes-settle s₁ u₁ is₁ (subst Fair (sym (planned-is e₀ e₁)) (walk-fair ps (movesOf ms) n))) $ split ! $
+        use1 W (raw (Settled 𝓤 H A mem run .pre (to-settle s₁ u₁)) ⊛ (‵ OwnV ⊛ ‵ OwnR)) (goes-settle s₁ u₁ is₁ (subst Fair (sym (planned-is e₀ e₁)) (list-fair n levels (now xv) (now xr) ps (now xm) (movesOf ms)))) $ split ! $
         -- [what `settle_records` asks; the valences and the rings; t₄; the list; _17; …]
         calls-at ! fm (Settled 𝓤 H A mem run) known-settle (to-settle s₁ u₁) (and-then ! (load ! (from ! (stop !)) (look ! 20 refl)) (and-then ! (load ! (from ! (stop !)) (look ! 12 refl)) (and-then ! (load ! (from ! (stop !)) (look ! 36 refl)) (and-then ! (load ! (from ! (stop !)) (look ! 34 refl)) (and-then ! (load ! (from ! (stop !)) (look ! 8 refl)) (and-then ! (load ! (from ! (stop !)) (look ! 4 refl)) (and-then ! (load ! (from ! (stop !)) (look ! 26 refl)) (no-more !)))))))) (λ w.
         use1 W (later (some (λ (r : ValueAnswer). (Tokens ⊛ ‵ (E.the-row .own r (w ∷ []))) ⊛ raw (ensured 𝓤 H A settle.ended (settle.clauses 𝓤 H A mem run) κs₁ (args s₁ u₁) tt r)))) (id⊢ 𝓤 _) $ await ! tt $ pick ! (λ r.
@@ -351,7 +351,7 @@ module _ {M : Type 1} (𝓤 : URA M) (H : Heap 𝓤) (A : Atoms 𝓤) (W : Given
         move ! (41 ∷ 42 ∷ []) $ free1 ! $ move ! (39 ∷ 40 ∷ []) $ free1 ! $ move ! (37 ∷ 38 ∷ []) $ free1 ! $ move ! (35 ∷ 36 ∷ []) $ free1 ! $ move ! (33 ∷ 34 ∷ []) $ free1 ! $ move ! (31 ∷ 32 ∷ []) $ free1 ! $ move ! (29 ∷ 30 ∷ []) $ free1 ! $ move ! (27 ∷ 28 ∷ []) $ free1 ! $ move ! (25 ∷ 26 ∷ []) $ free1 ! $ move ! (23 ∷ 24 ∷ []) $ free1 ! $ move ! (21 ∷ 22 ∷ []) $ free1 ! $ move ! (19 ∷ 20 ∷ []) $ free1 ! $ move ! (17 ∷ 18 ∷ []) $ free1 ! $ move ! (15 ∷ 16 ∷ []) $ free1 ! $ move ! (13 ∷ 14 ∷ []) $ free1 ! $ move ! (11 ∷ 12 ∷ []) $ free1 ! $ move ! (9 ∷ 10 ∷ []) $ free1 ! $ move ! (7 ∷ 8 ∷ []) $ free1 ! $ free0 ! $
         split ! $ keep ! (3 ∷ 4 ∷ 6 ∷ 7 ∷ 0 ∷ 2 ∷ []) $ by ! (exits t w′ (ws .1 .1 .1 .1 .0) (ws .1 .1 .1 .1 .1 .0) is′ lp lm (records-settled n levels (now xv) (now xr) ps (now xm) ms (planned-is e₀ e₁) (e₂ .0) (e₂ .1) (e₂ .2) e₃)))))))))))))))))))))))))))))))))))))))))
 
-module _ {M : Type 1} (𝓤 : URA M) (H : Heap 𝓤) (A : Atoms 𝓤) (W : Given 𝓤 H A) (mem : Memory → SProp 𝓤) (run : Routine → Fun 𝓤) (𝓣 : Tables 𝓤 H) (known-opened : Triple 𝓤 (𝓣 .C #opened) (Opened 𝓤 H A mem run)) (known-walk : Triple 𝓤 (𝓣 .C #walk-records) (Walked 𝓤 H A mem run))
+module _ {M : Type 1} (𝓤 : URA M) (H : Heap 𝓤) (A : Atoms 𝓤) (W : Given 𝓤 H A) (mem : Memory → SProp 𝓤) (run : Routine → Fun 𝓤) (𝓣 : Tables 𝓤 H) (known-first : Triple 𝓤 (𝓣 .C #first-plan) (First 𝓤 H A mem run)) (known-walk : Triple 𝓤 (𝓣 .C #walk-records) (Walked 𝓤 H A mem run))
     (known-settle : Triple 𝓤 (𝓣 .C #settle-records) (Settled 𝓤 H A mem run)) (known-kinds : Triple 𝓤 (𝓣 .C #by-kinds) (Told 𝓤 H A mem run)) where
   walks : Walks 𝓤 H A f.ended stayed (WpFn 𝓤 H (𝓣 .C) (𝓣 .Λ) code.function) (f.clauses 𝓤 H A mem run)
   walks = walked 𝓤 H A f.ended stayed (f.clauses 𝓤 H A mem run) (WpFn 𝓤 H (𝓣 .C) (𝓣 .Λ) code.function)
@@ -359,7 +359,7 @@ module _ {M : Type 1} (𝓤 : URA M) (H : Heap 𝓤) (A : Atoms 𝓤) (W : Given
       (λ κs. (shr-slice-tells (named 0) (κs .0) u16, (shr-slice-tells (named 1) (κs .1 .0) u16, (mut-slice-tells (named 2) (κs .1 .1 .0) i32, (mut-slice-tells (named 3) (κs .1 .1 .1 .0) u32, (uint-tells w64, (uint-tells w64, (shr-slice-tells (named 4) (κs .1 .1 .1 .1 .0) T.the-row, tt))))))))
       (λ κs qs bounds a g are. via 𝓤 _ (fst∗ 𝓤 _ (emp 𝓤)) (goes 𝓤 H A W mem run (κs .0) (κs .1 .0) (κs .1 .1 .0) (κs .1 .1 .1 .0) (κs .1 .1 .1 .1 .0) (qs .0) (qs .1 .0) (qs .1 .1 .0) (qs .1 .1 .1 .0) (qs .1 .1 .1 .1 .0)
       (a .0) (a .1 .0) (a .1 .1 .0 .ptr .0) (a .1 .1 .0 .ptr .1) (a .1 .1 .0 .name) (a .1 .1 .0 .now) (a .1 .1 .1 .0) (a .1 .1 .1 .1 .0) (a .1 .1 .1 .1 .1 .0) (a .1 .1 .1 .1 .1 .1 .0)
-      (are .0 .0 .1) (are .1 .0 .0 .1) (are .1 .1 .0 .0 .1) (are .1 .1 .1 .0 .0 .1) (are .1 .1 .1 .1 .0 .1) (are .1 .1 .1 .1 .1 .0 .1) (are .1 .1 .1 .1 .1 .1 .0 .0 .1) (𝓣 .C) (𝓣 .Λ) (fmOf 𝓤 H (W .laws) 𝓣) known-opened known-walk known-settle known-kinds))
+      (are .0 .0 .1) (are .1 .0 .0 .1) (are .1 .1 .0 .0 .1) (are .1 .1 .1 .0 .0 .1) (are .1 .1 .1 .1 .0 .1) (are .1 .1 .1 .1 .1 .0 .1) (are .1 .1 .1 .1 .1 .1 .0 .0 .1) (𝓣 .C) (𝓣 .Λ) (fmOf 𝓤 H (W .laws) 𝓣) known-first known-walk known-settle known-kinds))
 
   meets : Meets 𝓤 H A f.signature (WpFn 𝓤 H (𝓣 .C) (𝓣 .Λ) code.function) (f.spec 𝓤 H A mem run)
   meets = walk-meets 𝓤 H A f.ended stayed W (
@@ -383,7 +383,7 @@ gt-moves-spec 𝓤 H 𝓜 𝓖 𝓡 =
     entered 𝓤 H (tripleOf 𝓤 H (𝓖 .A) f.signature (f.spec 𝓤 H (𝓖 .A) (𝓜 .mem) (𝓡 .run)))
     (tables 𝓤 H 𝓜 𝓡 code.env .C) (tables 𝓤 H 𝓜 𝓡 code.env .Λ) #gt-moves code.function (code.unfolded 𝓤 H 𝓜 𝓡)
     (meets 𝓤 H (𝓖 .A) (givenOf 𝓤 H 𝓜 𝓖) (𝓜 .mem) (𝓡 .run) (tablesOf 𝓤 H 𝓜 (tables 𝓤 H 𝓜 𝓡 code.env))
-    (cited 𝓤 H (Opened 𝓤 H (𝓖 .A) (𝓜 .mem) (𝓡 .run)) 𝓜 𝓡 code.env #opened opened-def.routine code.calls-plan·list·opened (opened-thm.met 𝓤 H 𝓜 𝓖 𝓡))
+    (cited 𝓤 H (First 𝓤 H (𝓖 .A) (𝓜 .mem) (𝓡 .run)) 𝓜 𝓡 code.env #first-plan first-def.routine code.calls-moves·call·first-plan (first-thm.met 𝓤 H 𝓜 𝓖 𝓡))
     (cited 𝓤 H (Walked 𝓤 H (𝓖 .A) (𝓜 .mem) (𝓡 .run)) 𝓜 𝓡 code.env #walk-records walk-def.routine code.calls-move-records·walk-records (walk-thm.met 𝓤 H 𝓜 𝓖 𝓡))
     (cited 𝓤 H (Settled 𝓤 H (𝓖 .A) (𝓜 .mem) (𝓡 .run)) 𝓜 𝓡 code.env #settle-records settle-def.routine code.calls-gypsumtrot·lists·settle-records (settle-thm.met 𝓤 H 𝓜 𝓖 𝓡))
     (cited 𝓤 H (Told 𝓤 H (𝓖 .A) (𝓜 .mem) (𝓡 .run)) 𝓜 𝓡 code.env #by-kinds kinds-def.routine code.calls-move-records·by-kinds (kinds-thm.met 𝓤 H 𝓜 𝓖 𝓡)))
