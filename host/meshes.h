@@ -1,5 +1,5 @@
-/* Sound control meshes for programs that try or measure the library: spheres, tori, double cones, with random edges
- * turned round. Numbers depend on a seed alone. */
+/* Sound control meshes for programs that try or measure the library: spheres, tori, double cones, tori with tubes, with
+ * random edges turned round. Numbers depend on a seed alone. */
 #ifndef MESHES_H
 #define MESHES_H
 
@@ -122,6 +122,39 @@ static inline void mesh_torus(control_mesh *m, size_t a, size_t b) {
             size_t ring[6] = {up * b + j, up * b + right, i * b + right, down * b + j, down * b + left, i * b + left};
             mesh_row(m, i * b + j, 6, ring);
         }
+}
+
+/* The corners of the face at place i of v: v, that neighbour, and the one after it. */
+static inline void mesh_face(const control_mesh *m, size_t v, size_t i, size_t *corners) {
+    const uint16_t *row = m->rings + GT_RING_PLACES * v;
+    corners[0] = v, corners[1] = row[i], corners[2] = row[(i + 1) % m->valences[v]];
+}
+
+/* Takes two faces out and puts a tube of six triangles in between them, unless valences or shared or neighbouring corners
+ * forbid it. Each of the six corners gets two neighbours. */
+static inline void mesh_tube(control_mesh *m, const size_t *p, const size_t *q, size_t greatest) {
+    for (size_t i = 0; i < 3; i++) {
+        if (m->valences[p[i]] + 2 > (int)greatest || m->valences[q[i]] + 2 > (int)greatest) return;
+        for (size_t j = 0; j < 3; j++)
+            if (p[i] == q[j] || mesh_place(m, p[i], q[j]) < m->valences[p[i]]) return;
+    }
+    for (size_t i = 0; i < 3; i++) {
+        mesh_insert_after(m, p[i], p[(i + 1) % 3], q[(4 - i) % 3]);
+        mesh_insert_after(m, p[i], p[(i + 1) % 3], q[(3 - i) % 3]);
+        mesh_insert_after(m, q[i], q[(i + 1) % 3], p[(4 - i) % 3]);
+        mesh_insert_after(m, q[i], q[(i + 1) % 3], p[(3 - i) % 3]);
+    }
+}
+
+/* A torus with random tubes between its faces, until nearly every valence is the greatest; it is even and at least 6. */
+static inline void mesh_tubes(control_mesh *m, uint64_t *state, size_t a, size_t b, size_t greatest) {
+    mesh_torus(m, a, b);
+    for (size_t k = 0; k < 4000 * m->count; k++) {
+        size_t v = random_below(state, m->count), u = random_below(state, m->count), p[3], q[3];
+        mesh_face(m, v, random_below(state, m->valences[v]), p);
+        mesh_face(m, u, random_below(state, m->valences[u]), q);
+        mesh_tube(m, p, q, greatest);
+    }
 }
 
 static inline void mesh_random_positions(control_mesh *m, uint64_t *state, size_t reach) {

@@ -3,8 +3,11 @@
  *
  *   bench MESH LEVELS OPERATION REPETITIONS
  *
- * MESH is sphere:V, torus:AxB, or wild:V (valences up to 32); OPERATION is check, refine, drag, list, read, write.
- * Prints the number of vertices of the stack. */
+ * MESH is sphere:V, torus:AxB (all valences 6), wild:V (valences up to 32), tubes:AxB:N (most valences N), or cone:N (two
+ * tips of valence N, the first vertex and the last). OPERATION is check, refine, drag, list, read or write; or a ring call
+ * on the first vertex and the last in turn: contains, next, valence, make (the ring as it is), erase (the neighbour in the
+ * middle; two repetitions at most, one a vertex). Prints the number of vertices of the stack, and its mean valence at
+ * level 0. */
 #include <stdio.h>
 #include <stdlib.h>
 #include "../meshes.h"
@@ -25,9 +28,11 @@ static void need(int condition, const char *what) {
 
 static void make_mesh(const char *name) {
     uint64_t state = 12345;
-    size_t a, b;
+    size_t a, b, n;
     if (sscanf(name, "sphere:%zu", &a) == 1) mesh_sphere(&control, &state, a);
     else if (sscanf(name, "torus:%zux%zu", &a, &b) == 2) mesh_torus(&control, a, b);
+    else if (sscanf(name, "tubes:%zux%zu:%zu", &a, &b, &n) == 3) mesh_tubes(&control, &state, a, b, n);
+    else if (sscanf(name, "cone:%zu", &n) == 1) mesh_double_cone(&control, n);
     else if (sscanf(name, "wild:%zu", &a) == 1) {
         mesh_sphere(&control, &state, a);
         mesh_flip_random(&control, &state, 20 * a, GT_RING_PLACES);
@@ -35,11 +40,15 @@ static void make_mesh(const char *name) {
     mesh_random_positions(&control, &state, GT_GREATEST_COORDINATE);
 }
 
+static size_t ends(void) {
+    size_t sum = 0;
+    for (size_t v = 0; v < control.count; v++) sum += control.valences[v];
+    return sum;
+}
+
 static void prepare(void) {
     uint64_t state = 999;
-    size_t ends = 0;
-    for (size_t v = 0; v < control.count; v++) ends += control.valences[v];
-    rows = gt_stack_rows(control.count, ends / 2, levels), words = gt_map_words(rows);
+    rows = gt_stack_rows(control.count, ends() / 2, levels), words = gt_map_words(rows);
     valences = calloc(rows, sizeof *valences), rings = calloc(GT_RING_PLACES * rows, sizeof *rings);
     positions = calloc(3 * rows, sizeof *positions), map = calloc(words, sizeof *map);
     file = calloc(1, 14 + 84 * control.count);
@@ -73,13 +82,38 @@ static int operate(char operation) {
     }
 }
 
+/* One ring call on v; the neighbour in the middle of the ring is the one that is looked for. */
+static int operate_ring(char operation, size_t v) {
+    size_t ring_places = GT_RING_PLACES * rows, count = control.count, n = control.valences[v];
+    const uint16_t *ring = control.rings + GT_RING_PLACES * v;
+    switch (operation) {
+    case 'c': return gt_contains(valences, rows, rings, ring_places, count, v, ring[n / 2]).value == 1;
+    case 'n': return gt_next(valences, rows, rings, ring_places, count, v, ring[n / 2]).value == ring[n / 2 + 1];
+    case 'v': return gt_valence(valences, rows, rings, ring_places, count, v).value == n;
+    case 'm': return gt_make(valences, rows, rings, ring_places, count, v, ring, n).number == 0;
+    case 'e': return gt_erase(valences, rows, rings, ring_places, count, v, ring[n / 2]).number == 0 && valences[v] == n - 1;
+    default: return 0;
+    }
+}
+
+static int is_ring_call(const char *operation) {
+    static const char *const calls[] = {"contains", "next", "valence", "make", "erase"};
+    for (size_t i = 0; i < sizeof calls / sizeof *calls; i++)
+        if (strcmp(operation, calls[i]) == 0) return 1;
+    return 0;
+}
+
 int main(int argc, char **argv) {
     need(argc == 5, "bench MESH LEVELS OPERATION REPETITIONS");
     make_mesh(argv[1]);
     levels = (size_t)atoi(argv[2]);
     prepare();
     char operation = strcmp(argv[3], "refine") == 0 ? 'f' : argv[3][0];
-    for (int i = atoi(argv[4]); i > 0; i--) need(operate(operation), "an operation was refused");
-    printf("%zu\n", rows);
+    if (is_ring_call(argv[3]))
+        for (int i = atoi(argv[4]); i > 0; i--)
+            need(operate_ring(operation, i % 2 ? control.count - 1 : 0), "a ring call was refused");
+    else
+        for (int i = atoi(argv[4]); i > 0; i--) need(operate(operation), "an operation was refused");
+    printf("%zu %.1f\n", rows, (double)ends() / (double)control.count);
     return 0;
 }
