@@ -1,8 +1,9 @@
 //! An independent implementation of document 01, and cases with the answers that it gives.
 //!
-//!   reference cases SEED ROUNDS FILE    writes seeded cases
-//!   reference compare FILE              recomputes the answers of given cases and compares
-//!   reference listing                   is the listing program
+//!   reference cases SEED ROUNDS FILE              writes seeded cases
+//!   reference sample SEED ROUNDS EACH MOST FILE   writes EACH of them for each answer of each call, of at most MOST bytes
+//!   reference compare FILE                        recomputes the answers of given cases and compares
+//!   reference listing                             is the listing program
 
 mod answers;
 mod calls;
@@ -14,9 +15,20 @@ mod format;
 mod meshes;
 mod move_cases;
 mod random;
+mod sample;
 mod tables;
 
 use std::io::{Read, Write};
+
+fn number(word: &str) -> usize {
+    word.parse().expect("a number")
+}
+
+/// Writes a file of cases and says how many there are.
+fn write(path: &str, cases: &[format::Case]) -> std::io::Result<()> {
+    println!("{} cases", cases.len());
+    std::fs::write(path, format::file(cases))
+}
 
 fn main() -> std::io::Result<()> {
     let arguments: Vec<String> = std::env::args().skip(1).collect();
@@ -24,9 +36,12 @@ fn main() -> std::io::Result<()> {
     match words[..] {
         ["cases", seed, rounds, path] => {
             examples::hold();
-            let cases = cases::all(seed.parse().expect("a seed"), rounds.parse().expect("a number of rounds"));
-            println!("{} cases", cases.len());
-            std::fs::write(path, format::file(&cases))
+            write(path, &cases::all(number(seed) as u64, number(rounds)))
+        }
+        ["sample", seed, rounds, each, most, path] => {
+            examples::hold();
+            let cases = cases::all(number(seed) as u64, number(rounds));
+            write(path, &sample::sample(cases, number(each), number(most)))
         }
         ["compare", path] => {
             let (cases, different) = compare::compare(&std::fs::read(path)?);
@@ -39,7 +54,7 @@ fn main() -> std::io::Result<()> {
             std::io::stdout().write_all(calls::listing(&input).as_bytes())
         }
         _ => {
-            eprintln!("reference cases SEED ROUNDS FILE | reference compare FILE | reference listing");
+            eprintln!("reference cases SEED ROUNDS FILE | sample SEED ROUNDS EACH MOST FILE | compare FILE | listing");
             std::process::exit(2)
         }
     }
