@@ -130,7 +130,7 @@ gt_counts gt_check(const uint16_t *valences, size_t valences_length, const uint1
  * Answers:  V, E, F of the last level.
  * Refuses:  8, then what gt_check refuses, 9, 10.
  * Cost:     linear in the vertices of the stack, and at each level in the squares of the control valences: 120 to 160
- *           instructions a stack vertex at valence 6; at valences near 32, 540 with one level, 135 with four. */
+ *           instructions a stack vertex at valence 6; at valences near 32 up to 540 with one level, 135 with four. */
 gt_counts gt_refine(uint16_t *valences, size_t valences_length, uint16_t *rings, size_t rings_length,
                     int32_t *positions, size_t positions_length, size_t v, size_t levels);
 
@@ -173,8 +173,8 @@ gt_value gt_write(const uint16_t *valences, size_t valences_length, const uint16
  * refuse first: 2, 1 (valences and rings), 3 for v, and, but for gt_make, 4 with place v where v's ring is improper
  * (a valence of 0, 1 or 2 is allowed here). An edit that changes the ring writes row v and valence v and nothing else;
  * unused places of the row become 65,535. An edit without effect is accepted and writes nothing.
- * Cost: 240 to 360 instructions at valence 6, 3,000 to 3,300 at valence 32: nearly all of it goes into the test that the
- * ring (for gt_make, the list) is proper, which compares its places pair by pair. */
+ * Cost: 240 to 360 instructions at valence 6, 3,000 to 3,300 at valence 32: nearly all of them go into the test that
+ * the ring (for gt_make, the list) is proper, which compares its places pair by pair. */
 
 /* Sets the ring of v to `list`. Refuses: 2, 1, 3; 16 (over 32); 3 at the first list place not below `count`; 15. */
 gt_value gt_make(uint16_t *valences, size_t valences_length, uint16_t *rings, size_t rings_length,
