@@ -146,7 +146,8 @@ gt_counts gt_refine(uint16_t *valences, size_t valences_length, uint16_t *rings,
  * Answers:  value, the number of touched points, level 0 included (the number of ones in the map).
  * Refuses:  8, then what gt_check refuses, 9, 10 (tables and map), 11, 12; then move by move 99, 3, 13 (any of its
  *           three numbers), 14 (any of its three results).
- * Cost:     linear in the ring places of the stack (it is held against what refinement gives) and in the moves. */
+ * Cost:     linear in the ring places of the stack (it is held against what refinement gives) and in the moves; of a
+ *           longer list no more than the first 64 are looked at, and none where 8 refuses. */
 gt_value gt_moves(const uint16_t *valences, size_t valences_length, const uint16_t *rings, size_t rings_length,
                   int32_t *positions, size_t positions_length, uint32_t *map, size_t map_length,
                   size_t v, size_t levels, const gt_move *moves, size_t moves_length);

@@ -4,12 +4,12 @@ use mathlib.Core.Path.{_≡_, ap, _∙_}
 use mathlib.Core.List.{List}
 use lib.IntN.{ℤ}
 use lib.ListN.{length}
-use Rattle.mesh.specs.Search.{sum}
 use Rattle.mesh.proofs.Lists.{sum-same}
 use Rattle.file_writing.specs.Write.{fileOf}
 use Rattle.file_writing.proofs.RowsWritten.{length-file}
+use Rattle.round_trips.specs.FileSize.{fileSize}
 
-pub file-length : (n : ℕ) (ring : ℕ → List ℕ) (point : ℕ → ℕ → ℤ) → length (fileOf n ring point) ≡ 14 + sum (λ v. 20 + 2 * length (ring v)) n
+pub file-length : (n : ℕ) (ring : ℕ → List ℕ) (point : ℕ → ℕ → ℤ) → length (fileOf n ring point) ≡ fileSize n ring
 file-length = length-file
 
 pub tetrahedron-length : (ring : ℕ → List ℕ) (point : ℕ → ℕ → ℤ) → ((v : ℕ) → v < 4 → length (ring v) ≡ 3) → length (fileOf 4 ring point) ≡ 118
