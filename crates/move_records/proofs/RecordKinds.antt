@@ -1,22 +1,18 @@
--- The move that a record means, by its kind; how much of a list of records is looked at; and what a list of records answers by the kind at the answer's place. Assumes nothing.
-use Prim.Native.Nat.{ℕ, zero, suc, _≤_, _<_, _*_, _^_}
+-- The move that a record means, by its kind, and what a list of records answers by the kind at the answer's place. Assumes nothing.
+use Prim.Native.Nat.{ℕ, _≤_, _<_, _*_, _^_}
 use mathlib.Core.Path.{_≡_, refl, sym, ap, _∙_}
 use mathlib.Core.Bool.{Bool, true, false, _&&_}
 use mathlib.Core.Logic.{_≢_}
-use mathlib.Core.List.{List, [], _∷_, map}
+use mathlib.Core.List.{List}
 use native.Mathlib.Omega.{arith}
 use borrow.Author.Tests.{eq-eqb, ne-eqb, lt-ltb, le-ltb}
 use lib.Dec.{ltb}
 use lib.Ieee.{nan}
-use lib.IntN.{ℤ}
-use lib.ListN.{length, length-map, take, getD, List·getD-map, List·getD-eq-default}
+use lib.ListN.{length, getD, List·getD-map, List·getD-eq-default}
 use Rattle.rings.specs.Refusal.{Paper, refused}
 use Rattle.millimetres.specs.declared.Change.{Change}
 use Rattle.millimetres.specs.declared.Change.the-variants.{Place, Shift, Stretch}
-use Rattle.plan.specs.Plan.{aheadOf, walkOf}
 use Rattle.plan.specs.declared.Move.{Move}
-use Rattle.plan.specs.declared.Plan.{Plan}
-use Rattle.plan.proofs.WalksStop.{walk-stops}
 use Rattle.move_records.specs.Records.{moveOf, byKind, byKinds}
 use Rattle.move_records.specs.declared.MoveRecord.{MoveRecord}
 
@@ -45,20 +41,6 @@ module _ (r : MoveRecord) where
       pub no-known-kind : r .kind ≢ 2 → of 4294967295 (Place (r .x) (r .y) (r .z)) ≡ moveOf r
       unfolding moveOf
       no-known-kind c = rw (ne-eqb (r .kind) 0 a, ne-eqb (r .kind) 1 b, ne-eqb (r .kind) 2 c)
-
--- ---- how much of a list of records is looked at
-
-moves-taken : (k : ℕ) (list : List MoveRecord) → map moveOf (take k list) ≡ take k (map moveOf list)
-moves-taken zero list = refl
-moves-taken (suc k) [] = refl
-moves-taken (suc k) (r ∷ list) = ap (λ (ms : List Move). moveOf r ∷ ms) (moves-taken k list)
-
--- the records that are looked at come to what the whole list comes to
-pub records-stop : (ps : List ℤ) (list : List MoveRecord) (s : Plan) → walkOf ps (map moveOf (take (aheadOf s (length list)) list)) s ≡ walkOf ps (map moveOf list) s
-records-stop ps list s =
-    ap (λ (ms : List Move). walkOf ps ms s) (moves-taken (aheadOf s (length list)) list)
-    ∙ ap (λ (n : ℕ). walkOf ps (take (aheadOf s n) (map moveOf list)) s) (sym (length-map list moveOf))
-    ∙ walk-stops ps (map moveOf list) s
 
 -- ---- an answer at a record of this kind
 

@@ -74,17 +74,16 @@ fn step_record(positions: &[i32], plan: Plan, item: MoveRecord) -> Plan
 pub fn walk_records(list: &[MoveRecord], positions: &[i32], start: Plan) -> Plan
     ensures { λ r. ⌜ r ≡ walkOf (now (positions .entry)) (movesOf (now (list .entry))) start ⌝ }
 {
-    let end = ahead(start, list.len());
     let mut plan = start;
     let mut i = 0;
-    while i < end {
+    while i < ahead(plan, list.len()) {
         plan = step_record(positions, plan, list[i]);
         i += 1;
     }
     plan
 }
 
-// The answer 3 of a list whose record at the answer's place is this one: 99 in its place where the kind is unknown.
+// What the answer 3 of a list becomes where this record stands at its place: 99 if the kind is unknown.
 fn by_kind(answer: ValueAnswer, item: MoveRecord) -> ValueAnswer
     requires { ⌜ answer .number ≡ 3 ⌝ }
     ensures { λ r. ⌜ valuePaper r ≡ byKind (item .kind) (valuePaper answer) ⌝ }
@@ -99,7 +98,7 @@ fn by_kind(answer: ValueAnswer, item: MoveRecord) -> ValueAnswer
     answer
 }
 
-// The answer of a list of records whose moves answer this: one thin look at the record at the answer's place, where it is 3.
+// The answer of a list of records whose moves answer this: where it is 3, one thin look at the record at its place.
 pub fn by_kinds(list: &[MoveRecord], answer: ValueAnswer) -> ValueAnswer
     ensures { λ r. ⌜ valuePaper r ≡ byKinds (now (list .entry)) (valuePaper answer) ⌝ }
 {

@@ -1,17 +1,15 @@
--- How much of a list is looked at: none of it from a refused plan, else its first 64 moves. What stands behind them changes nothing:
---     walk-stops       the moves that are looked at come to what the whole list comes to
+-- How far a list is looked at: no further once the plan is refused, and to its 64th move at most. What stands behind changes nothing:
+--     walk-stops       the moves that are left where the walk stops leave the plan as it is
 -- Assumes nothing.
 use mathlib.Core.Path.{_≡_, refl, sym, ap, subst, _∙_}
 use mathlib.Core.Bool.{Bool, true, false, cond}
 use mathlib.Core.List.{List, [], _∷_}
 use mathlib.Core.Logic.{⊎-elim}
-use Prim.Native.Nat.{ℕ, zero, suc, _+_, _≤_, _<_}
+use Prim.Native.Nat.{ℕ, _+_, _≤_, _<_}
 use native.Mathlib.Omega.{arith}
-use borrow.Author.Tests.{lt-ltb, le-ltb, ltb-true}
+use borrow.Author.Tests.{lt-ltb, le-ltb, ltb-true, ltb-false}
 use lib.Dec.{ltb}
 use lib.IntN.{ℤ}
-use lib.ListN.{length, take}
-use lib.Seq.{take-length}
 use Rattle.mesh.proofs.Lists.{le-split}
 use Rattle.millimetres.specs.Millimetres.{mmOf}
 use Rattle.millimetres.specs.Move.{movedTo}
@@ -30,7 +28,7 @@ use Rattle.plan.proofs.Plans.{step-refused, step-full, step-unknown, st
 pub not-both : {A : Type 0} (a : Verdict) (r : Refusal) → a ≡ Accepted → a ≡ Refused r → A
 not-both a r p q = absurd (let z : _≡_ {A = ℕ} 0 1 = cc in omega arith)
 
--- ---- how many moves are looked at
+-- ---- how far a list is looked at
 
 module _ (s : Plan) (moves : ℕ) where
   pub ahead-none : (r : Refusal) → s .verdict ≡ Refused r → 0 ≡ aheadOf s moves
@@ -55,6 +53,20 @@ module _ (s : Plan) (moves : ℕ) where
   unfolding aheadOf
   ahead-below = below-by (s .verdict) (ltb 64 moves) refl
 
+  few-by : (v : Verdict) (b : Bool) → ltb 64 moves ≡ b → after v (cond b 64 moves) 0 ≤ 64
+  unfolding after
+  few-by (Refused r) b e = omega arith
+  few-by Accepted true e = omega arith
+  few-by Accepted false e = ltb-false 64 moves e
+
+  ahead-few : aheadOf s moves ≤ 64
+  unfolding aheadOf
+  ahead-few = few-by (s .verdict) (ltb 64 moves) refl
+
+-- an accepted plan after i moves has taken as many
+abbrev pub Counted : ℕ → Plan → Type 0
+Counted i s = s .verdict ≡ Accepted → i ≤ s .taken
+
 module _ (ps : List ℤ) where
   -- ---- a plan that is refused or full stays
 
@@ -68,58 +80,49 @@ module _ (ps : List ℤ) where
   walk-full [] s e h = refl
   walk-full (m ∷ ms) s e h = ap (walkOf ps ms) (sym (step-full ps s m e h)) ∙ walk-full ms s e h
 
-  -- ---- a plan has room for at most k moves more, or it is refused
+  -- ---- after i moves, an accepted plan has taken as many
 
-  abbrev Within : ℕ → Plan → Type 0
-  Within k s = s .verdict ≡ Accepted → 64 ≤ s .taken + k
-
-  refused-within : (k : ℕ) (s : Plan) (r : Refusal) → Within k (refusedIn s r)
+  refused-counted : (i : ℕ) (s : Plan) (r : Refusal) → Counted i (refusedIn s r)
   unfolding refusedIn
-  refused-within k s r q = not-both (Refused r) r q refl
+  refused-counted i s r q = not-both (Refused r) r q refl
 
-  result-within : (k : ℕ) (s : Plan) (v : ℕ) (g : Moved) → 64 ≤ s .taken + suc k → Within k (resultIn s v g)
+  result-counted : (i : ℕ) (s : Plan) (v : ℕ) (g : Moved) → i ≤ s .taken → Counted (i + 1) (resultIn s v g)
   unfolding notedIn
-  result-within k s v (At p) h q = omega arith
-  result-within k s v NotFinite h q = refused-within k s (refusal.NotFinite (s .taken)) q
-  result-within k s v Outside h q = refused-within k s (refusal.Outside (s .taken)) q
+  result-counted i s v (At p) h q = omega arith
+  result-counted i s v NotFinite h q = refused-counted (i + 1) s (refusal.NotFinite (s .taken)) q
+  result-counted i s v Outside h q = refused-counted (i + 1) s (refusal.Outside (s .taken)) q
 
-  module _ (k : ℕ) (s : Plan) (m : Move) where
-    room-within : s .verdict ≡ Accepted → s .taken < 64 → 64 ≤ s .taken + suc k → Within k (stepOf ps s m)
+  module _ (i : ℕ) (s : Plan) (m : Move) where
+    room-counted : s .verdict ≡ Accepted → s .taken < 64 → i ≤ s .taken → Counted (i + 1) (stepOf ps s m)
     unfolding takenIn
-    room-within e l h = ⊎-elim
-        (λ u. subst (Within k) (step-unknown ps s m e l _ (u .1) refl) (refused-within k s (refusal.NoVertex (s .taken))))
-        (λ u. subst (Within k) (step-taken ps s m e l _ (u .1) refl) (result-within k s (m .vertex) (movedTo (mmOf (currentPoint ps s (m .vertex))) (m .change)) h))
+    room-counted e l h = ⊎-elim
+        (λ u. subst (Counted (i + 1)) (step-unknown ps s m e l _ (u .1) refl) (refused-counted (i + 1) s (refusal.NoVertex (s .taken))))
+        (λ u. subst (Counted (i + 1)) (step-taken ps s m e l _ (u .1) refl) (result-counted i s (m .vertex) (movedTo (mmOf (currentPoint ps s (m .vertex))) (m .change)) h))
         (le-split (s .count) (m .vertex))
 
-    step-by : (v : Verdict) → s .verdict ≡ v → Within (suc k) s → Within k (stepOf ps s m)
-    step-by (Refused r) e w = subst (Within k) (step-refused ps s m r e) (λ q. not-both (s .verdict) r q e)
-    step-by Accepted e w = ⊎-elim
-        (λ u. subst (Within k) (step-full ps s m e (u .1)) (λ q. omega (arith, u .1)))
-        (λ u. room-within e (u .1) (w e))
+    step-by : (v : Verdict) → s .verdict ≡ v → i < 64 → Counted i s → Counted (i + 1) (stepOf ps s m)
+    step-by (Refused r) e l c = subst (Counted (i + 1)) (step-refused ps s m r e) (λ q. not-both (s .verdict) r q e)
+    step-by Accepted e l c = ⊎-elim
+        (λ u. subst (Counted (i + 1)) (step-full ps s m e (u .1)) (λ q. omega (arith, u .1)))
+        (λ u. room-counted e (u .1) (c e))
         (le-split 64 (s .taken))
 
-    step-within : Within (suc k) s → Within k (stepOf ps s m)
-    step-within = step-by (s .verdict) refl
+    pub step-counted : (moves : ℕ) → i < aheadOf s moves → Counted i s → Counted (i + 1) (stepOf ps s m)
+    step-counted moves l = step-by (s .verdict) refl (omega (arith, ahead-few s moves))
 
-  -- ---- the first k moves come to what all come to
+  -- ---- where the walk stops, the moves that are left change nothing
 
-  none-by : (ms : List Move) (s : Plan) (v : Verdict) → s .verdict ≡ v → Within zero s → s ≡ walkOf ps ms s
-  none-by ms s (Refused r) e w = sym (walk-refused ms s r e)
-  none-by ms s Accepted e w = let h = w e in sym (walk-full ms s e (omega arith))
+  module _ (rest : List Move) (s : Plan) (i moves : ℕ) (none : moves ≤ i → rest ≡ []) (c : Counted i s) where
+    ended : moves ≤ i → walkOf ps rest s ≡ s
+    unfolding walkOf
+    ended h = ap (λ (l : List Move). walkOf ps l s) (none h)
 
-  walk-within : (k : ℕ) (ms : List Move) (s : Plan) → Within k s → walkOf ps (take k ms) s ≡ walkOf ps ms s
-  unfolding walkOf
-  walk-within zero ms s w = none-by ms s (s .verdict) refl w
-  walk-within (suc k) [] s w = refl
-  walk-within (suc k) (m ∷ ms) s w = walk-within k ms (stepOf ps s m) (step-within k s m w)
+    stops-by : (v : Verdict) (b : Bool) → s .verdict ≡ v → after v (cond b 64 moves) 0 ≤ i → walkOf ps rest s ≡ s
+    unfolding after
+    stops-by (Refused r) b e h = walk-refused rest s r e
+    stops-by Accepted true e h = let l = c e in walk-full rest s e (omega arith)
+    stops-by Accepted false e h = ended h
 
-  module _ (ms : List Move) (s : Plan) where
-    stops-by : (v : Verdict) (b : Bool) → s .verdict ≡ v → walkOf ps (take (after v (cond b 64 (length ms)) 0) ms) s ≡ walkOf ps ms s
-    unfolding after walkOf
-    stops-by (Refused r) b e = sym (walk-refused ms s r e)
-    stops-by Accepted true e = walk-within 64 ms s (λ q. omega arith)
-    stops-by Accepted false e = ap (λ (l : List Move). walkOf ps l s) (take-length ms)
-
-    pub walk-stops : walkOf ps (take (aheadOf s (length ms)) ms) s ≡ walkOf ps ms s
+    pub walk-stops : aheadOf s moves ≤ i → walkOf ps rest s ≡ s
     unfolding aheadOf
-    walk-stops = stops-by (s .verdict) (ltb 64 (length ms)) refl
+    walk-stops = stops-by (s .verdict) (ltb 64 moves) refl

@@ -113,7 +113,7 @@ stepOf ps s m =
     (takenIn ps s m)))
     s
 
--- how many moves of a list are looked at, from this plan: none once it is refused, else the first 64
+-- how far a list of so many moves is looked at, by the plan reached: no further once it is refused, and to the 64th move at most
 unfoldable pub aheadOf : Plan → ℕ → ℕ
 aheadOf s moves = after (s .verdict) (cond (ltb mostMoves moves) mostMoves moves) 0
 

@@ -146,7 +146,8 @@ pub fn step(positions: &[i32], plan: Plan, m: Move) -> Plan
     }
 }
 
-// How many moves of a list are looked at, from this plan: none once it is refused, else the first 64.
+// How far a list of so many moves is looked at, by the plan reached: no further once it is refused,
+// and to the 64th move at most.
 pub fn ahead(plan: Plan, moves: usize) -> usize
     ensures { λ r. ⌜ r ≡ aheadOf plan moves ⌝ }
 {
@@ -166,10 +167,9 @@ pub fn ahead(plan: Plan, moves: usize) -> usize
 pub fn walk(list: &[Move], positions: &[i32], start: Plan) -> Plan
     ensures { λ r. ⌜ r ≡ walkOf (now (positions .entry)) (now (list .entry)) start ⌝ }
 {
-    let end = ahead(start, list.len());
     let mut plan = start;
     let mut i = 0;
-    while i < end {
+    while i < ahead(plan, list.len()) {
         plan = step(positions, plan, list[i]);
         i += 1;
     }
