@@ -103,7 +103,8 @@ module _ (n levels : ℕ) (vs rs : List ℕ) (ps : List ℤ) where
 -- ---- the theorem
 
 -- lists of moves keep fresh tables fresh
-pub calls-keep-fresh : (n levels : ℕ) (vs rs : List ℕ) (cs : List ListCall) (ps : List ℤ) → Fresh n levels vs rs ps → Fresh n levels vs rs (afterCalls n levels vs rs cs ps)
+pub calls-keep-fresh : (n levels : ℕ) (vs rs : List ℕ) (cs : List ListCall) (ps : List ℤ) → Fresh n levels vs rs ps
+    → Fresh n levels vs rs (afterCalls n levels vs rs cs ps)
 calls-keep-fresh n levels vs rs [] ps f = f
 calls-keep-fresh n levels vs rs (c ∷ cs) ps f =
     calls-keep-fresh n levels vs rs cs (applyPositions n levels vs rs ps (c .map) (c .moves)) (list-keeps-fresh n levels vs rs ps (c .map) (c .moves) f)

@@ -1,20 +1,22 @@
 -- Demand 3 as the calls see it. In tables that an accepted refinement has filled, after any lists of moves with its V and L:
 --     refining-again-is-accepted        a refinement with the same V and L is accepted;
---     refining-again-changes-no-point   it writes, at every level, the coordinates that stand there already;
---     next-list-is-judged-by-itself     the next list comes to its moves: nothing but the map's room (10), its length (12) and its moves (3, 13, 14) can refuse it.
+--     refining-again-changes-nothing    it leaves each of the three tables as it stands: what it writes stands there already;
+--     next-list-is-judged-by-itself     the next list comes to its moves: nothing can refuse it
+--                                       but the map's room (10), its length (12) and its moves (3, 13, 14).
 -- Assumes nothing.
-use Prim.Native.Nat.{ℕ, zero, suc, _+_, _*_, _≤_, _<_}
+use Prim.Native.Nat.{ℕ, zero, suc, _+_, _-_, _*_, _/_, _%_, _≤_, _<_}
 use mathlib.Core.Path.{_≡_, refl, sym, ap, subst, _∙_}
 use mathlib.Core.List.{List, [], _∷_}
 use mathlib.Core.Logic.{⊎-elim}
 use native.Mathlib.Omega.{arith}
 use lib.IntN.{ℤ, pos}
 use lib.ListN.{length, getD, drop, length-drop}
-use lib.Seq.{getD-drop}
+use lib.Seq.{getD-drop, ext-getD}
+use Rattle.mesh.specs.Limits.{mostMoves}
 use Rattle.mesh.specs.Mesh.{Mesh, edges}
 use Rattle.mesh.specs.Refine.{level}
 use Rattle.mesh.specs.Mask.{refined}
-use Rattle.mesh.proofs.Lists.{eq-split, le-split}
+use Rattle.mesh.proofs.Lists.{eq-split, le-split, lt-split}
 use Rattle.mesh.proofs.Levels.{level-sound}
 use Rattle.units.specs.Coordinate.{InRange}
 use Rattle.units.specs.declared.Point.{Point}
@@ -31,17 +33,18 @@ use Rattle.rings.specs.declared.Verdict.the-variants.{Accepted, Refused}
 use Rattle.rings.proofs.Verdicts.{then-accepted}
 use Rattle.rings.proofs.Rows.{rows-ring, row-length, room-row}
 use Rattle.map.specs.Map.{wordCount}
-use Rattle.stack_judge.specs.Stack.{levelCount, levelStart, stackCount}
+use Rattle.stack_judge.specs.Stack.{levelCount, levelStart, stackCount, levelOf, numberIn}
 use Rattle.stack_judge.specs.Accepts.{AcceptsStack}
 use Rattle.stack_judge.specs.StackVerdict.{stackVerdict}
 use Rattle.stack_judge.proofs.AcceptedStack.{stack-only, stack-all}
 use Rattle.stack_judge.proofs.Sizes.{level-count, start-none, start-suc}
-use Rattle.stack_judge.proofs.StackVertices.{starts-climb}
-use Rattle.refine.specs.Refinement.{refineValences, refineRings, refinePositions}
+use Rattle.stack_judge.proofs.StackVertices.{starts-climb, stack-vertex}
+use Rattle.refine.specs.Refinement.{stackedValences, stackedRings, refineValences, refineRings, refinePositions}
+use Rattle.refine.proofs.RefineAnswers.{accepted-valences, accepted-rings}
 use Rattle.refine.proofs.StackIsRefined.{valence-is-refined, ring-is-refined, point-is-refined, level-is-refined}
-use Rattle.refine.proofs.StackKeeps.{lengths-stay}
+use Rattle.refine.proofs.StackKeeps.{lengths-stay, tails-stay}
 use Rattle.refine.proofs.StackStaysInHull.{stack-stays-in-range}
-use Rattle.refine.proofs.StackLevels.{point-part}
+use Rattle.refine.proofs.StackLevels.{point-part, valences-again, rings-again}
 use Rattle.refine.proofs.OnlyControlIsRead.{SameControl, same-mesh, same-verdict}
 use Rattle.strange.specs.Expected.{whole}
 use Rattle.as_refined.proofs.StackAsRefined.{AsRefined, nothing-is-strange}
@@ -139,7 +142,9 @@ module _ (n levels : ℕ) (vs rs : List ℕ) (ps : List ℤ) (map : List ℕ) (m
     accepted-keeps =
         stack-all n levels vs rs (applyPositions n levels vs rs ps map ms)
         (accepted-moved a (applyPositions n levels vs rs ps map ms) (after-length n levels vs rs ps map ms e)
-        (λ v h axis b. subst (λ (z : ℤ). InRange z) (sym (control-after n levels vs rs ps map ms e axis b v h)) (near-at (movedControl n levels vs rs ps map ms) v axis b (moved-in-range v h))))
+        (λ v h axis b.
+        subst (λ (z : ℤ). InRange z) (sym (control-after n levels vs rs ps map ms e axis b v h))
+        (near-at (movedControl n levels vs rs ps map ms) v axis b (moved-in-range v h))))
 
   list-keeps-accepted : stackVerdict n levels vs rs ps ≡ Accepted → stackVerdict n levels vs rs (applyPositions n levels vs rs ps map ms) ≡ Accepted
   list-keeps-accepted h = go (applyVerdict n levels vs rs ps map ms) refl
@@ -186,12 +191,21 @@ module _ (n levels : ℕ) (vs rs : List ℕ) (ps : List ℤ) (e : stackVerdict n
       }
     where
       valence0 : (v : ℕ) → v < n → length (rows n vs rs .ring v) ≡ getD vs v 0
-      valence0 v h = let b = stack-only n levels vs rs ps e .control in ap length (rows-ring n vs rs v h) ∙ row-length vs rs v (room-row (b .room) h (b .most v h))
+      valence0 v h =
+          let b = stack-only n levels vs rs ps e .control in
+          ap length (rows-ring n vs rs v h) ∙ row-length vs rs v (room-row (b .room) h (b .most v h))
 
   again : stackVerdict n levels vs′ rs′ ps′ ≡ Accepted
   again = sym (same-verdict n levels vs rs ps vs′ rs′ ps′ control-same) ∙ e
 
-  control-stays : rows n vs′ rs′ ≡ M
+  -- the control mesh that the tables hold, and where its levels begin
+  abbrev N : Mesh
+  N = rows n vs′ rs′
+
+  abbrev begin : ℕ → ℕ
+  begin k = levelStart n (edges N) k
+
+  control-stays : N ≡ M
   control-stays = sym (same-mesh n levels vs rs ps vs′ rs′ ps′ control-same)
 
   module _ (cs : List ListCall) where
@@ -202,48 +216,108 @@ module _ (n levels : ℕ) (vs rs : List ℕ) (ps : List ℤ) (e : stackVerdict n
     pub refining-again-is-accepted : stackVerdict n levels vs′ rs′ qs ≡ Accepted
     refining-again-is-accepted = calls-keep-accepted n levels vs′ rs′ cs ps′ again
 
-    pub refining-again-changes-no-point : (axis : ℕ) → axis < 3 → (k x : ℕ) → k ≤ levels → x < level (rows n vs′ rs′) k .count
-        → coordinateAt (refinePositions n levels vs′ rs′ qs) axis (levelStart n (edges (rows n vs′ rs′)) k + x) ≡ coordinateAt qs axis (levelStart n (edges (rows n vs′ rs′)) k + x)
-    refining-again-changes-no-point axis b k x l h =
-        point-is-refined n levels vs′ rs′ qs (sym refining-again-is-accepted) k x l h axis b ∙ sym (every-level-is-fresh n levels vs rs ps e cs .fresh axis b k x l h)
+    -- ---- the points
+
+    same-point : (axis : ℕ) → axis < 3 → (k x : ℕ) → k ≤ levels → x < level N k .count
+        → coordinateAt (refinePositions n levels vs′ rs′ qs) axis (begin k + x) ≡ coordinateAt qs axis (begin k + x)
+    same-point axis b k x l h =
+        point-is-refined n levels vs′ rs′ qs (sym refining-again-is-accepted) k x l h axis b
+        ∙ sym (every-level-is-fresh n levels vs rs ps e cs .fresh axis b k x l h)
 
     stack : AcceptsStack n levels vs′ rs′ qs
     stack = stack-only n levels vs′ rs′ qs refining-again-is-accepted
 
-    count-is : (k : ℕ) → level (rows n vs′ rs′) k .count ≡ levelCount n (edges (rows n vs′ rs′)) k
+    count-is : (k : ℕ) → level N k .count ≡ levelCount n (edges N) k
     unfolding rows
-    count-is k = level-count (rows n vs′ rs′) (stack .control .sound) k
+    count-is k = level-count N (stack .control .sound) k
 
-    level-there : (k : ℕ) → k ≤ levels
-        → rows (level (rows n vs′ rs′) k .count) (drop (levelStart n (edges (rows n vs′ rs′)) k) vs′) (drop (levelStart n (edges (rows n vs′ rs′)) k * 32) rs′) ≡ level (rows n vs′ rs′) k
+    -- a number of the stack is one coordinate of one vertex of one level
+    same-number : (p : ℕ) → p < stackCount n (edges N) levels * 3 → getD (refinePositions n levels vs′ rs′ qs) p (pos 0) ≡ getD qs p (pos 0)
+    unfolding coordinateAt
+    same-number p h =
+        let v = stack-vertex n (edges N) levels (p / 3) (omega arith) in
+        let k : ℕ = levelOf n (edges N) levels (p / 3) in
+        let x : ℕ = numberIn n (edges N) levels (p / 3) in
+        let here : (begin k + x) * 3 + p % 3 ≡ p = omega (arith, v .1 .0) in
+        subst (λ (q : ℕ). getD (refinePositions n levels vs′ rs′ qs) q (pos 0) ≡ getD qs q (pos 0)) here
+        (same-point (p % 3) (omega arith) k x (v .0) (rw (count-is k) (v .1 .1)))
+
+    -- what lies behind the stack stays
+    same-behind : (p : ℕ) → stackCount n (edges N) levels * 3 ≤ p → getD (refinePositions n levels vs′ rs′ qs) p (pos 0) ≡ getD qs p (pos 0)
+    same-behind p h =
+        let w : ℕ = stackCount n (edges N) levels * 3 in
+        let r : w + (p - w) ≡ p = omega arith in
+        subst (λ (q : ℕ). getD (refinePositions n levels vs′ rs′ qs) q (pos 0) ≡ getD qs q (pos 0)) r
+        (sym (getD-drop w (refinePositions n levels vs′ rs′ qs) (p - w) (pos 0))
+        ∙ ap (λ (t : List ℤ). getD t (p - w) (pos 0)) (tails-stay n levels vs′ rs′ qs .1 .1)
+        ∙ getD-drop w qs (p - w) (pos 0))
+
+    same-positions : refinePositions n levels vs′ rs′ qs ≡ qs
+    same-positions =
+        ext-getD (pos 0) (refinePositions n levels vs′ rs′ qs) qs (lengths-stay n levels vs′ rs′ qs .1 .1)
+        (λ p h. ⊎-elim (λ q. same-number p (q .1)) (λ q. same-behind p (q .1)) (lt-split p (stackCount n (edges N) levels * 3)))
+
+    -- ---- the valences and the rings
+
+    first-accepted : AcceptsStack n levels vs rs ps
+    first-accepted = stack-only n levels vs rs ps e
+
+    -- after an accepted refinement the valences and the rings are the stacked ones
+    stacked-valences : stackedValences n levels vs rs ≡ vs′
+    stacked-valences = accepted-valences n levels vs rs ps (sym e)
+
+    stacked-rings : stackedRings n levels vs rs ≡ rs′
+    stacked-rings = accepted-rings n levels vs rs ps (sym e)
+
+    same-valences : refineValences n levels vs′ rs′ qs ≡ vs′
+    same-valences =
+        sym (accepted-valences n levels vs′ rs′ qs (sym refining-again-is-accepted))
+        ∙ subst (λ (t : List ℕ). rows n t rs′ ≡ M → stackedValences n levels t rs′ ≡ t) stacked-valences
+        (valences-again n levels vs rs ps first-accepted levels (omega arith) rs′) control-stays
+
+    same-rings : refineRings n levels vs′ rs′ qs ≡ rs′
+    same-rings =
+        sym (accepted-rings n levels vs′ rs′ qs (sym refining-again-is-accepted))
+        ∙ subst (λ (t : List ℕ). rows n vs′ t ≡ M → stackedRings n levels vs′ t ≡ t) stacked-rings
+        (rings-again n levels vs rs ps first-accepted levels (omega arith) vs′) control-stays
+
+    pub refining-again-changes-nothing : (refineValences n levels vs′ rs′ qs ≡ vs′)
+        × ((refineRings n levels vs′ rs′ qs ≡ rs′) × (refinePositions n levels vs′ rs′ qs ≡ qs))
+    refining-again-changes-nothing = (same-valences, (same-rings, same-positions))
+
+    -- ---- the next list
+
+    level-there : (k : ℕ) → k ≤ levels → rows (level N k .count) (drop (begin k) vs′) (drop (begin k * 32) rs′) ≡ level N k
     level-there k l = rw control-stays (level-is-refined n levels vs rs ps (sym e) k l)
 
-    few : (k x : ℕ) → k ≤ levels → x < level (rows n vs′ rs′) k .count → getD vs′ (levelStart n (edges (rows n vs′ rs′)) k + x) 0 ≤ 32
+    few : (k x : ℕ) → k ≤ levels → x < level N k .count → getD vs′ (begin k + x) 0 ≤ 32
     few k x l h =
-        let v : getD vs′ (levelStart n (edges (rows n vs′ rs′)) k + x) 0 ≡ length (level (rows n vs′ rs′) k .ring x) = rw control-stays (valence-is-refined n levels vs rs ps (sym e) k x l (rw control-stays at h)) in
-        let s = level-sound (rows n vs′ rs′) (stack .control .sound) k .proper x h .short in
+        let v : getD vs′ (begin k + x) 0 ≡ length (level N k .ring x) =
+        rw control-stays (valence-is-refined n levels vs rs ps (sym e) k x l (rw control-stays at h)) in
+        let s = level-sound N (stack .control .sound) k .proper x h .short in
         omega arith
 
     as-refined : (k : ℕ) → k ≤ levels → AsRefined n vs′ rs′ qs k
     unfolding stackCount
     as-refined k l = record {
       mesh = rw (← count-is k) (level-there k l);
-      most = λ x h. subst (λ (m : ℕ). m ≤ 32) (sym (getD-drop (levelStart n (edges (rows n vs′ rs′)) k) vs′ x 0)) (few k x l (rw (count-is k) h));
+      most = λ x h. subst (λ (m : ℕ). m ≤ 32) (sym (getD-drop (begin k) vs′ x 0)) (few k x l (rw (count-is k) h));
       near = record {
         points =
             let p = stack .points in
-            let s = start-suc n (edges (rows n vs′ rs′)) k in
-            let c = starts-climb n (edges (rows n vs′ rs′)) (suc k) (suc levels) (omega arith) in
+            let s = start-suc n (edges N) k in
+            let c = starts-climb n (edges N) (suc k) (suc levels) (omega arith) in
             rw length-drop (omega arith);
         near = λ x h axis b.
             subst (λ (z : ℤ). InRange z)
-            (refining-again-changes-no-point axis b k x l (rw (count-is k) h) ∙ sym (point-part qs (levelStart n (edges (rows n vs′ rs′)) k) axis x))
+            (same-point axis b k x l (rw (count-is k) h) ∙ sym (point-part qs (begin k) axis x))
             (stack-stays-in-range n levels vs′ rs′ qs (sym refining-again-is-accepted) axis b k x l (rw (count-is k) h));
       };
     }
 
     -- a list of at most 64 moves, with a map that has room, comes to its moves
-    pub next-list-is-judged-by-itself : (words moves : ℕ) → wordCount (whole n levels vs′ rs′ qs) ≤ words → moves ≤ 64 → beforeMoves n levels vs′ rs′ qs words moves ≡ Accepted
+    pub next-list-is-judged-by-itself : (words moves : ℕ) → wordCount (whole n levels vs′ rs′ qs) ≤ words → moves ≤ mostMoves
+        → beforeMoves n levels vs′ rs′ qs words moves ≡ Accepted
     next-list-is-judged-by-itself words moves room few =
         sym (before-accepted n levels vs′ rs′ qs words moves (sym refining-again-is-accepted) (whole n levels vs′ rs′ qs) refl room (whole n levels vs′ rs′ qs)
         (nothing-is-strange n levels vs′ rs′ qs stack as-refined) (omega arith) few)

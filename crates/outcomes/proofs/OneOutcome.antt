@@ -46,8 +46,10 @@ module _ {input text text′ text″ : List ℕ} {a b : ℕ} where
 -- ---- the C interface: twelve calls answer a value, gt_check and gt_refine the counts; those that write no table have the empty one
 
 module _ {T : Type 0} {promised : Paper} {tables tables′ tables″ : T} where
-  pub one-exported-value : {a b : ValueAnswer} → Exported valuePaper promised tables a tables′ → Exported valuePaper promised tables b tables″ → (a ≡ b) × (tables′ ≡ tables″)
+  pub one-exported-value : {a b : ValueAnswer} → Exported valuePaper promised tables a tables′
+      → Exported valuePaper promised tables b tables″ → (a ≡ b) × (tables′ ≡ tables″)
   one-exported-value {a} {b} x y = (one-value a b (x .answers) (y .answers), one-answer (x .writes) (y .writes))
 
-  pub one-exported-counts : {a b : CountsAnswer} → Exported countsPaper promised tables a tables′ → Exported countsPaper promised tables b tables″ → (a ≡ b) × (tables′ ≡ tables″)
+  pub one-exported-counts : {a b : CountsAnswer} → Exported countsPaper promised tables a tables′
+      → Exported countsPaper promised tables b tables″ → (a ≡ b) × (tables′ ≡ tables″)
   one-exported-counts {a} {b} x y = (one-counts a b (x .answers) (y .answers), one-answer (x .writes) (y .writes))

@@ -97,7 +97,9 @@ module _ (ps : List ℤ) where
     unfolding takenIn
     room-counted e l h = ⊎-elim
         (λ u. subst (Counted (i + 1)) (step-unknown ps s m e l _ (u .1) refl) (refused-counted (i + 1) s (refusal.NoVertex (s .taken))))
-        (λ u. subst (Counted (i + 1)) (step-taken ps s m e l _ (u .1) refl) (result-counted i s (m .vertex) (movedTo (mmOf (currentPoint ps s (m .vertex))) (m .change)) h))
+        (λ u.
+        subst (Counted (i + 1)) (step-taken ps s m e l _ (u .1) refl)
+        (result-counted i s (m .vertex) (movedTo (mmOf (currentPoint ps s (m .vertex))) (m .change)) h))
         (le-split (s .count) (m .vertex))
 
     step-by : (v : Verdict) → s .verdict ≡ v → i < 64 → Counted i s → Counted (i + 1) (stepOf ps s m)

@@ -1,7 +1,7 @@
 -- The tables of a stack: each level that is written stands there as refinement defines it, level 0 and what lies behind the last level stay.
 -- Assumes nothing.
 use Prim.Native.Nat.{ℕ, zero, suc, _+_, _-_, _*_, _≤_, _<_}
-use mathlib.Core.Path.{_≡_, refl, sym, ap, ap₂, _∙_}
+use mathlib.Core.Path.{_≡_, refl, sym, ap, ap₂, subst, _∙_}
 use mathlib.Core.Bool.{cond}
 use mathlib.Core.List.{List, [], _∷_}
 use native.Mathlib.Nat.{zero-add, mul-one}
@@ -242,6 +242,26 @@ module _ (n levels : ℕ) (vs rs : List ℕ) (ps : List ℤ) (a : AcceptsStack n
 
     pub number-behind : (p : ℕ) → sum size (suc k) * 3 ≤ p → getD (stackedPositions n k vs rs ps) p (pos 0) ≡ getD ps p (pos 0)
     number-behind p h = ap (λ (t : List ℤ). getD t p (pos 0)) positions-are ∙ L.stacked-behind 3 pointRow (λ j x. refl) size ps k room₃ (pos 0) p h
+
+    -- refining what is stacked already, where the control mesh is the same, writes the same valences and rings
+    pub valences-again : (rs′ : List ℕ) → rows n (stackedValences n k vs rs) rs′ ≡ M
+        → stackedValences n k (stackedValences n k vs rs) rs′ ≡ stackedValences n k vs rs
+    unfolding stackedValences valenceRows level rows
+    valences-again rs′ e =
+        subst
+        (λ (N : Mesh). put (stackedValences n k vs rs) n (gather (λ j. valenceRows (level N (suc j) .ring) (level N (suc j) .count)) k) ≡ stackedValences n k vs rs)
+        (sym e)
+        (subst (λ (p : ℕ). put (put vs p (L.blocks 1 valenceRow (λ j x. refl) size k)) p (L.blocks 1 valenceRow (λ j x. refl) size k) ≡ put vs p (L.blocks 1 valenceRow (λ j x. refl) size k))
+        (mul-one n) (L.stacked-over 1 valenceRow (λ j x. refl) size vs k room₁ 0))
+
+    pub rings-again : (vs′ : List ℕ) → rows n vs′ (stackedRings n k vs rs) ≡ M
+        → stackedRings n k vs′ (stackedRings n k vs rs) ≡ stackedRings n k vs rs
+    unfolding stackedRings ringRows level rows
+    rings-again vs′ e =
+        subst
+        (λ (N : Mesh). put (stackedRings n k vs rs) (n * 32) (gather (λ j. ringRows (level N (suc j) .ring) (level N (suc j) .count)) k) ≡ stackedRings n k vs rs)
+        (sym e)
+        (L.stacked-over 32 ringRow (level-row M S) size rs k room₃₂ 0)
 
   -- ---- one level more: the parts that begin where level k does come back with its rows
 

@@ -12,6 +12,7 @@ use borrow.Rule.Slice.PartMut.{putMid}
 use Rattle.mesh.specs.Search.{sum}
 use Rattle.mesh.proofs.Lists.{lt-split, climbs}
 use Rattle.rings.specs.Table.{put, gather}
+use Rattle.rings.proofs.Blocks.{put-over}
 use Rattle.rings.proofs.Tables.{length-put, put-within, put-before, put-behind, length-gather, gather-at, gather-more}
 
 -- ---- a part that begins at a, lent and back
@@ -89,6 +90,10 @@ module _ {A : Type 0} (w : ℕ) (row : ℕ → ℕ → List A) (wide : (j x : �
 
     pub stacked-length : length stacked ≡ length t
     stacked-length = length-put t (size 0 * w) (blocks k) fits
+
+    -- written once more, the levels stand as they did
+    pub stacked-over : A → put stacked (size 0 * w) (blocks k) ≡ stacked
+    stacked-over d = put-over d t (size 0 * w) (blocks k) (blocks k) (omega arith) fits
 
     -- a row of level j + 1
     pub stacked-at : (d : A) (j x i : ℕ) → j < k → x < size (suc j) → i < w → getD stacked (sum size (suc j) * w + (x * w + i)) d ≡ getD (row j x) i d

@@ -1,6 +1,7 @@
 -- `open_up` meets its contract. Assumes nothing.
 use Prim.Native.Nat.{ℕ, _≤_, _-_, _+_}
 use mathlib.Core.Path.{_≡_, sym, subst, _∙_}
+use mathlib.Core.List.{List}
 use lib.ListN.{length, getD, take, set}
 use lib.Seq.{getD-take}
 use native.Mathlib.Omega.{arith}
@@ -21,14 +22,22 @@ abbrev μ-loop : tie.MeasureT-loop
 most : (s : tie.Start Inv-loop μ-loop) → s .args .n ≤ 32
 most s = omega arith
 
+-- the ring with x put in
+abbrev ring : tie.Start Inv-loop μ-loop → List ℕ
+ring s = opened (take (s .args .n) (s .args .row .now)) (s .args .i) (s .args .x)
+
 -- the place put in is in the ring, or right behind it
 here : (s : tie.Start Inv-loop μ-loop) → s .args .i ≤ length (take (s .args .n) (s .args .row .now))
 here s = let f = length-front (s .args .row .now) (s .args .n) (s .pre .0) (most s) in omega arith
 
 loop-holds : tie.Need-loop-holds Inv-loop μ-loop
 loop-holds c =
-    let h = here (c .before) in
-    (search needs, search needs, sym (opened-at _ _ _ 0 h), written-start (λ j l. sym (getD-take (c .before .args .n) _ j 0 (omega arith)) ∙ sym (opened-before _ _ _ j 0 l h)))
+    let h = here (c .before) in (
+      search needs,
+      search needs,
+      sym (opened-at _ _ _ 0 h),
+      written-start (λ j l. sym (getD-take (c .before .args .n) _ j 0 (omega arith)) ∙ sym (opened-before _ _ _ j 0 l h)),
+    )
 
 mul-shifted : tie.Need-mul-shifted Inv-loop μ-loop
 mul-shifted c = search needs
@@ -52,8 +61,12 @@ loop-again : tie.Need-loop-again Inv-loop μ-loop
 loop-again c =
     let inv = c .before .before .loop .inv in
     let s = c .before .before .before .before in
-    let h = here s in
-    (search needs, search needs, inv .3 .rest _ (omega arith) ∙ sym (getD-take (s .args .n) _ (c .before .before .loop .k) 0 (omega arith)) ∙ opened-moved _ _ _ h _ (inv .0), written-more (inv .3) (omega arith) _ (inv .2))
+    let h = here s in (
+      search needs,
+      search needs,
+      inv .3 .rest _ (omega arith) ∙ sym (getD-take (s .args .n) _ (c .before .before .loop .k) 0 (omega arith)) ∙ opened-moved _ _ _ h _ (inv .0),
+      written-more (inv .3) (omega arith) _ (inv .2),
+    )
 
 mul-row-2 : tie.Need-mul-row-2 Inv-loop μ-loop
 mul-row-2 c = search needs
@@ -66,12 +79,12 @@ add-pad c = search needs
 
 -- the loop ends at place n, and with what it carries there the ring is whole
 whole : (c : tie.After-loop Inv-loop μ-loop) → let s = c .before .before .before in
-    Written (opened (take (s .args .n) (s .args .row .now)) (s .args .i) (s .args .x)) (s .args .row .now) (s .args .n + 1) (set (c .before .loop .row) (s .args .n) (c .before .loop .carry))
+    Written (ring s) (s .args .row .now) (s .args .n + 1) (set (c .before .loop .row) (s .args .n) (c .before .loop .carry))
 whole c =
     let s = c .before .before .before in
     let inv = c .before .loop .inv in
     let k : c .before .loop .k ≡ s .args .n = omega arith in
-    subst (λ (j : ℕ). Written (opened (take (s .args .n) (s .args .row .now)) (s .args .i) (s .args .x)) (s .args .row .now) (j + 1) (set (c .before .loop .row) j (c .before .loop .carry))) k
+    subst (λ (j : ℕ). Written (ring s) (s .args .row .now) (j + 1) (set (c .before .loop .row) j (c .before .loop .carry))) k
     (written-more (inv .3) (omega arith) _ (inv .2))
 
 pad-requires : tie.Need-pad-requires Inv-loop μ-loop
@@ -85,7 +98,7 @@ returns c =
     let k = c .before .before in
     let s = k .before .before .before .before .before in
     let f = length-front (s .args .row .now) (s .args .n) (s .pre .0) (most s) in
-    let e : length (opened (take (s .args .n) (s .args .row .now)) (s .args .i) (s .args .x)) ≡ s .args .n + 1 =
+    let e : length (ring s) ≡ s .args .n + 1 =
     omega (arith, f, opened-length (take (s .args .n) (s .args .row .now)) (s .args .i) (s .args .x)) in
     front-written (whole (k .before .before)) _ e (omega arith) (omega arith) _ (k .pad .ensures)
 
