@@ -138,7 +138,7 @@ static void count_levels(size_t levels) {
     for (size_t k = 1, edges = ends / 2; k <= levels; k++, edges *= 4) total += counts[k] = counts[k - 1] + edges;
 }
 
-static size_t words(void) { return (total + 31) / 32; }
+static size_t words(void) { return gt_map_words(total); }
 
 /* The file of the mesh, written and read; cut off and changed. */
 static void try_file(void) {
