@@ -56,7 +56,7 @@ settled-changes ps w i NotFinite qs room e = absurd (let z : _≡_ {A = ℕ} 0 1
 settled-changes ps w i Outside qs room e = absurd (let z : _≡_ {A = ℕ} 0 1 = cc in omega arith)
 
 -- one move changes only its vertex
-step-changes : (n : ℕ) (ps : List ℤ) (m : Move) (i : ℕ) (qs : List ℤ) → n * 3 ≤ length ps → step n (pending ps) m i ≡ pending qs → ChangedAt (eqb (m .vertex)) ps qs
+pub step-changes : (n : ℕ) (ps : List ℤ) (m : Move) (i : ℕ) (qs : List ℤ) → n * 3 ≤ length ps → step n (pending ps) m i ≡ pending qs → ChangedAt (eqb (m .vertex)) ps qs
 unfolding step
 step-changes n ps m i qs room e =
     ⊎-elim
@@ -65,7 +65,7 @@ step-changes n ps m i qs room e =
     (le-split n (m .vertex))
 
 -- once a move was refused the rest does nothing
-run-stopped : (n : ℕ) (ms : List Move) (i : ℕ) (r : Refusal) → run n ms i (stopped r) ≡ stopped r
+pub run-stopped : (n : ℕ) (ms : List Move) (i : ℕ) (r : Refusal) → run n ms i (stopped r) ≡ stopped r
 unfolding step
 run-stopped n [] i r = refl
 run-stopped n (m ∷ ms) i r = run-stopped n ms (suc i) r

@@ -4,7 +4,7 @@
 --     next-list-is-judged-by-itself     the next list comes to its moves: nothing can refuse it
 --                                       but the map's room (10), its length (12) and its moves (3, 13, 14).
 -- Assumes nothing.
-use Prim.Native.Nat.{ℕ, zero, suc, _+_, _-_, _*_, _/_, _%_, _≤_, _<_}
+use Prim.Native.Nat.{ℕ, suc, _+_, _-_, _*_, _/_, _%_, _≤_, _<_}
 use mathlib.Core.Path.{_≡_, refl, sym, ap, subst, _∙_}
 use mathlib.Core.List.{List, [], _∷_}
 use mathlib.Core.Logic.{⊎-elim}
@@ -27,7 +27,6 @@ use Rattle.millimetres.specs.declared.Change.{Change}
 use Rattle.millimetres.specs.declared.Moved.{Moved}
 use Rattle.millimetres.specs.declared.Moved.the-variants.{At, NotFinite, Outside}
 use Rattle.rings.specs.Table.{rows, ringOf, coordinateAt, pointAt}
-use Rattle.rings.specs.declared.Refusal.{Refusal}
 use Rattle.rings.specs.declared.Verdict.{Verdict}
 use Rattle.rings.specs.declared.Verdict.the-variants.{Accepted, Refused}
 use Rattle.rings.proofs.Verdicts.{then-accepted}
@@ -53,8 +52,9 @@ use Rattle.plan.specs.Moves.{Pending, pending, stopped, placed, settle, step, r
 use Rattle.plan.specs.Plan.{Near}
 use Rattle.plan.specs.declared.Move.{Move}
 use Rattle.plan.proofs.FairPlans.{moved-near}
-use Rattle.plan.proofs.Laid.{length-placed, point-same, point-other}
+use Rattle.plan.proofs.Laid.{point-near, near-at, point-same, point-other}
 use Rattle.moves.specs.Apply.{beforeMoves, moved, movedControl, applyVerdict, applyPositions}
+use Rattle.moves.proofs.ControlPoints.{step-changes, run-stopped}
 use Rattle.moves.proofs.AfterList.{refused-keeps, stack-accepted, control-after, after-length}
 use Rattle.moves.proofs.Judging.{before-accepted}
 use Rattle.moves.specs.Fresh.{ListCall, afterCalls}
@@ -73,32 +73,22 @@ placed-near n ps w p room q all v h =
     (λ e. subst Near (sym (point-other ps w p room v (e .1))) (all v h))
     (eq-split w v)
 
--- what one move leaves: as long a table, with points in range
-pub record Kept (n : ℕ) (ps qs : List ℤ) : Type 0 where
-  pub long : length qs ≡ length ps
-  pub near : NearAll n qs
-
-settled-kept : (n : ℕ) (ps : List ℤ) (w i : ℕ) (x : Mm) (c : Change) → w * 3 + 3 ≤ length ps → NearAll n ps → (m : Moved) → movedTo x c ≡ m
-    → (qs : List ℤ) → settle ps w i m ≡ pending qs → Kept n ps qs
-settled-kept n ps w i x c room all (At p) e qs h =
+settled-near : (n : ℕ) (ps : List ℤ) (w i : ℕ) (x : Mm) (c : Change) → w * 3 + 3 ≤ length ps → NearAll n ps → (m : Moved) → movedTo x c ≡ m
+    → (qs : List ℤ) → settle ps w i m ≡ pending qs → NearAll n qs
+settled-near n ps w i x c room all (At p) e qs h =
     let q : placed ps w p ≡ qs = cc in
-    subst (Kept n ps) q (record { long = length-placed ps w p room; near = placed-near n ps w p room (moved-near x c p e) all })
-settled-kept n ps w i x c room all NotFinite e qs h = absurd (let z : _≡_ {A = ℕ} 0 1 = cc in omega arith)
-settled-kept n ps w i x c room all Outside e qs h = absurd (let z : _≡_ {A = ℕ} 0 1 = cc in omega arith)
+    subst (NearAll n) q (placed-near n ps w p room (moved-near x c p e) all)
+settled-near n ps w i x c room all NotFinite e qs h = absurd (let z : _≡_ {A = ℕ} 0 1 = cc in omega arith)
+settled-near n ps w i x c room all Outside e qs h = absurd (let z : _≡_ {A = ℕ} 0 1 = cc in omega arith)
 
-step-kept : (n : ℕ) (ps : List ℤ) (m : Move) (i : ℕ) (qs : List ℤ) → n * 3 ≤ length ps → NearAll n ps → step n (pending ps) m i ≡ pending qs → Kept n ps qs
+step-near : (n : ℕ) (ps : List ℤ) (m : Move) (i : ℕ) (qs : List ℤ) → n * 3 ≤ length ps → NearAll n ps → step n (pending ps) m i ≡ pending qs → NearAll n qs
 unfolding step
-step-kept n ps m i qs room all e =
+step-near n ps m i qs room all e =
     ⊎-elim
     (λ l. absurd (let h = rw (l .0) at e in let z : _≡_ {A = ℕ} 0 1 = cc in omega arith))
-    (λ l. settled-kept n ps (m .vertex) i (mmOf (pointAt ps (m .vertex))) (m .change) (let q = l .1 in omega arith) all
+    (λ l. settled-near n ps (m .vertex) i (mmOf (pointAt ps (m .vertex))) (m .change) (let q = l .1 in omega arith) all
     (movedTo (mmOf (pointAt ps (m .vertex))) (m .change)) refl qs (rw (l .0) at e))
     (le-split n (m .vertex))
-
-run-stopped : (n : ℕ) (ms : List Move) (i : ℕ) (r : Refusal) → run n ms i (stopped r) ≡ stopped r
-unfolding step
-run-stopped n [] i r = refl
-run-stopped n (m ∷ ms) i r = run-stopped n ms (suc i) r
 
 run-near : (n : ℕ) (ms : List Move) (i : ℕ) (ps qs : List ℤ) → n * 3 ≤ length ps → NearAll n ps → run n ms i (pending ps) ≡ pending qs → NearAll n qs
 run-near n [] i ps qs room all e = let q : ps ≡ qs = cc in subst (NearAll n) q all
@@ -106,20 +96,12 @@ run-near n (m ∷ ms) i ps qs room all e = go (step n (pending ps) m i) refl e (
   where
     go : (s : Pending) → step n (pending ps) m i ≡ s → run n ms (suc i) s ≡ pending qs
         → ((ts : List ℤ) → n * 3 ≤ length ts → NearAll n ts → run n ms (suc i) (pending ts) ≡ pending qs → NearAll n qs) → NearAll n qs
-    go (pending ts) h e rest = let f = step-kept n ps m i ts room all h in let l = f .long in rest ts (omega arith) (f .near) e
+    go (pending ts) h e rest = let l = step-changes n ps m i ts room h .long in rest ts (omega arith) (step-near n ps m i ts room all h) e
     go (stopped r) h e rest = absurd (let k = run-stopped n ms (suc i) r in let z : _≡_ {A = ℕ} 0 1 = cc in omega arith)
-
-near-at : (ps : List ℤ) (v axis : ℕ) → axis < 3 → Near (pointAt ps v) → InRange (coordinateAt ps axis v)
-unfolding pointAt
-near-at ps v zero h n = n .x
-near-at ps v (suc zero) h n = n .y
-near-at ps v (suc (suc zero)) h n = n .z
-near-at ps v (suc (suc (suc k))) h n = absurd (omega arith)
 
 module _ (n levels : ℕ) (vs rs : List ℕ) (ps : List ℤ) (map : List ℕ) (ms : List Move) where
   control-near : AcceptsStack n levels vs rs ps → NearAll n ps
-  unfolding pointAt
-  control-near a v h = record { x = a .control .near v h 0 (omega arith); y = a .control .near v h 1 (omega arith); z = a .control .near v h 2 (omega arith) }
+  control-near a v h = point-near ps v (a .control .near v h)
 
   module _ (e : applyVerdict n levels vs rs ps map ms ≡ Accepted) where
     a : AcceptsStack n levels vs rs ps

@@ -11,6 +11,7 @@ use lib.Dec.{eqb}
 use lib.IntN.{ℤ, pos}
 use lib.ListN.{length, getD, take}
 use Rattle.mesh.proofs.Lists.{eq-split, lt-split}
+use Rattle.units.specs.Coordinate.{InRange}
 use Rattle.units.specs.declared.Point.{Point}
 use Rattle.millimetres.proofs.MoveCases.{point-is}
 use Rattle.rings.specs.Table.{coordinateAt, pointAt}
@@ -20,6 +21,19 @@ use Rattle.plan.specs.Plan.{Near, namedIn, laid, latestPoint}
 use Rattle.plan.specs.declared.Entry.{Entry}
 
 -- ---- one point
+
+-- a point is in the range where its three coordinates are
+module _ (ps : List ℤ) (v : ℕ) where
+  pub point-near : ((axis : ℕ) → axis < 3 → InRange (coordinateAt ps axis v)) → Near (pointAt ps v)
+  unfolding pointAt
+  point-near near = record { x = near 0 (omega arith); y = near 1 (omega arith); z = near 2 (omega arith) }
+
+  pub near-at : (axis : ℕ) → axis < 3 → Near (pointAt ps v) → InRange (coordinateAt ps axis v)
+  unfolding pointAt
+  near-at zero h n = n .x
+  near-at (suc zero) h n = n .y
+  near-at (suc (suc zero)) h n = n .z
+  near-at (suc (suc (suc k))) h n = absurd (omega arith)
 
 module _ (ps : List ℤ) (u : ℕ) (p : Point) (fits : u * 3 + 3 ≤ length ps) where
   pub length-placed : length (placed ps u p) ≡ length ps

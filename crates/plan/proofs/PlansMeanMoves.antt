@@ -35,7 +35,7 @@ use Rattle.plan.specs.declared.Plan.{Plan}
 use Rattle.plan.proofs.Plans.{kept-self, step-refused, step-unknown, step-taken}
 use Rattle.plan.proofs.WalksStop.{not-both, walk-refused}
 use Rattle.plan.proofs.FairPlans.{opened-fair, step-fair}
-use Rattle.plan.proofs.Laid.{Each, Low, NearEntry, each-take, latest-laid, latest-near, laid-append, named-append, or-assoc, or-none}
+use Rattle.plan.proofs.Laid.{Each, Low, NearEntry, point-near, each-take, latest-laid, latest-near, laid-append, named-append, or-assoc, or-none}
 
 -- this plan means what the list says, for n control vertices at these positions
 pub record Means (n : ℕ) (ps : List ℤ) (ms : List Move) (s : Plan) : Type 0 where
@@ -169,8 +169,7 @@ module _ (n : ℕ) (ps : List ℤ) (room : n * 3 ≤ length ps) (near : (v : ℕ
 
 module _ (n : ℕ) (ps : List ℤ) (ms : List Move) (room : n * 3 ≤ length ps) (near : (v : ℕ) → v < n → (axis : ℕ) → axis < 3 → InRange (coordinateAt ps axis v)) (few : length ms ≤ mostMoves) where
   near-point : (v : ℕ) → v < n → Near (pointAt ps v)
-  unfolding pointAt
-  near-point v h = record { x = near v h 0 (omega arith); y = near v h 1 (omega arith); z = near v h 2 (omega arith) }
+  near-point v h = point-near ps v (near v h)
 
   from-empty : run n ms 0 (pending ps) ≡ meaning ps (walkOf ps ms (openedPlan n Accepted))
   unfolding openedPlan planned meaning
