@@ -1,6 +1,7 @@
 /* Holds every call to what it may read. Closed to reading are the unused places of every ring, the tails of all tables
  * and lists, in a ring call every other row and valence, and all tables where a call only writes them or is refused for
- * its sizes. Calls may write to closed places. A list of a million moves is refused without a look behind the 64th.
+ * its sizes. Calls may write to closed places. A list of a million moves is refused without a look behind the 64th. Only
+ * the valence of a vertex that a split has made is open to it, as it counts that valence after it has written it.
  *
  *   qemu-x86_64 -plugin watch.so -d plugin closed
  *
@@ -226,6 +227,37 @@ static void try_levels(size_t levels) {
     try_moves(levels - 1, how);
 }
 
+/* An edit of the mesh. It is called once before it is watched, to learn what it answers: what is closed to it if that is
+ * 0 is given. */
+#define WATCH_EDIT(how, close, call, ...) do { \
+        uint32_t answered = call(__VA_ARGS__).number; \
+        put_back(); \
+        if (answered == 0) close(mesh.count); \
+        else close_behind(mesh.count); \
+        WATCH(how, answered, call, __VA_ARGS__); \
+        put_back(); \
+    } while (0)
+
+/* Edits of the mesh, at random edges and faces, and where there are none. */
+static void try_reshaping(void) {
+    size_t count = mesh.count, corners[3];
+    lay(count + TAIL);
+    keep();
+    for (size_t k = 0; k < 24; k++) {
+        size_t v = below(count);
+        mesh_face(&mesh, v, below(mesh.valences[v]), corners);
+        if (k % 4 == 3) corners[k % 3] = below(count + 1);
+        WATCH_EDIT("a mesh", close_behind_new, gt_split_edge, TABLES, count, corners[0], corners[1]);
+        WATCH_EDIT("a mesh", close_behind_new, gt_split_face, TABLES, count, corners[1], corners[0], corners[2]);
+        WATCH_EDIT("a mesh", close_behind, gt_flip, TABLES, count, corners[0], corners[1]);
+    }
+    rows = count;
+    mesh_face(&mesh, 0, 0, corners);
+    WATCH_EDIT("no row", close_behind_new, gt_split_edge, TABLES, count, corners[0], corners[1]);
+    WATCH_EDIT("no row", close_behind_new, gt_split_face, TABLES, count, corners[1], corners[0], corners[2]);
+    WATCH_EDIT("no row", close_behind, gt_flip, TABLES, count, corners[0], corners[1]);
+}
+
 /* One thing above level 0 is altered, or two: reason 11, by the valences as they then stand. */
 static void try_altered(void) {
     static const uint16_t other[8] = {0, 1, 2, 4, 5, 7, 33, 65535};
@@ -275,6 +307,9 @@ static void try_damaged(void) {
         close_behind(count);
         close_lists(0);
         WATCH("damaged", wanted, gt_check, TABLES, count);
+        WATCH("damaged", wanted, gt_split_edge, TABLES, count, 0, 1);
+        WATCH("damaged", wanted, gt_split_face, TABLES, count, 0, 1, 2);
+        WATCH("damaged", wanted, gt_flip, TABLES, count, 0, 1);
         WATCH("damaged", wanted, gt_refine, TABLES, count, 2);
         WATCH("damaged", wanted, gt_moves, TABLES, MAP, count, 2, list_of(1), 1);
     }
@@ -293,10 +328,16 @@ static void try_sizes(void) {
         WATCH("levels 0 or 5", GT_LEVEL_COUNT, gt_moves, TABLES, MAP, count, levels, moves, 1);
     }
     WATCH("three vertices", GT_VERTEX_COUNT, gt_check, TABLES, 3);
+    WATCH("three vertices", GT_VERTEX_COUNT, gt_split_edge, TABLES, 3, 0, 1);
+    WATCH("three vertices", GT_VERTEX_COUNT, gt_split_face, TABLES, 3, 0, 1, 2);
+    WATCH("three vertices", GT_VERTEX_COUNT, gt_flip, TABLES, 3, 0, 1);
     WATCH("three vertices", GT_VERTEX_COUNT, gt_refine, TABLES, 3, 1);
     WATCH("three vertices", GT_VERTEX_COUNT, gt_write, TABLES, 3, file, sizeof file);
     rows = count - 1;
     WATCH("too short", GT_TABLE_TOO_SHORT, gt_check, TABLES, count);
+    WATCH("too short", GT_TABLE_TOO_SHORT, gt_split_edge, TABLES, count, 0, 1);
+    WATCH("too short", GT_TABLE_TOO_SHORT, gt_split_face, TABLES, count, 0, 1, 2);
+    WATCH("too short", GT_TABLE_TOO_SHORT, gt_flip, TABLES, count, 0, 1);
     WATCH("too short", GT_TABLE_TOO_SHORT, gt_refine, TABLES, count, 1);
     WATCH("too short", GT_TABLE_TOO_SHORT, gt_write, TABLES, count, file, sizeof file);
     rows = total - 1;
@@ -355,6 +396,7 @@ static void try_mesh(size_t levels) {
     mesh_random_positions(&mesh, &state, GT_GREATEST_COORDINATE);
     for (size_t k = 1; k <= levels; k++) try_levels(k);
     try_file();
+    try_reshaping();
     try_altered();
     try_damaged();
     try_sizes();

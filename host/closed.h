@@ -81,6 +81,15 @@ static inline void close_behind(size_t count) {
     close_rows(count);
 }
 
+/* Closes the same but for the valence of a new vertex, which a split counts after it has written it. */
+static inline void close_behind_new(size_t count) {
+    watch_forget();
+    for (size_t v = 0; v < count; v++) close_unused_of(v);
+    CLOSE(valences, count + 1, rows, "valences from");
+    CLOSE(rings, GT_RING_PLACES * count, GT_RING_PLACES * rows, "rings from");
+    CLOSE(positions, 3 * count, 3 * rows, "positions from");
+}
+
 /* Closes all tables. */
 static inline void close_all(void) {
     watch_forget();

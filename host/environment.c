@@ -47,6 +47,9 @@ static void call_all(void) {
     const uint16_t ring[3] = {1, 2, 3};
     size_t v = control.count, refusals = gt_check(TABLES, v).number;
     gt_value written = gt_write(TABLES, v, file, sizeof file);
+    refusals += gt_split_face(TABLES, v, 0, 1, 3).number;
+    refusals += gt_flip(TABLES, v + 1, 0, 1).number;
+    refusals += gt_split_edge(TABLES, v + 1, 2, v).number;
     refusals += written.number + gt_read(file, written.value, TABLES).number;
     refusals += gt_erase(RING_TABLES, v, 0, 2).number + gt_insert_after(RING_TABLES, v, 0, 1, 2).number;
     refusals += gt_erase(RING_TABLES, v, 0, 3).number + gt_insert_before(RING_TABLES, v, 0, 1, 3).number;

@@ -3,9 +3,10 @@
  *   fuzz [SEED [ROUNDS]]
  *
  * Held in every round: nothing outside a lent table is touched; tables that are only read stay; a refusal changes
- * nothing and answers no counts; edits change one row; what is read can be written back; an accepted move list touches
- * exactly the points that the definition says, leaves the others, and its stack equals a fresh refinement. Beside all
- * that, the plain implementation is asked the same on copies of the tables, and must answer and leave the same. */
+ * nothing and answers no counts; ring edits change one row; what is read can be written back; an accepted move list
+ * touches exactly the points that the definition says, leaves the others, and its stack equals a fresh refinement; edits
+ * of the mesh keep it sound, change its counts and rows as they should, and a flip can be flipped back. Beside all that,
+ * the plain implementation is asked the same on copies of the tables, and must answer and leave the same. */
 #include "hold.h"
 
 /* A number that is often right: below n, n itself, or anything. */
@@ -19,14 +20,20 @@ static size_t around(size_t n) {
     }
 }
 
-/* Do the tables differ from what was lent in no row but v's? */
-static int other_rows_unchanged(size_t v) {
+static int is_among(const size_t *rows, size_t length, size_t v) {
+    for (size_t i = 0; i < length; i++)
+        if (rows[i] == v) return 1;
+    return 0;
+}
+
+/* Do rings and valences differ from what was lent in no row but these? */
+static int other_rows_unchanged(const size_t *rows, size_t length) {
     const uint16_t *now = (const uint16_t *)rings.begin, *was = (const uint16_t *)rings.was;
     for (size_t i = 0; i < rings_length; i++)
-        if (now[i] != was[i] && i / GT_RING_PLACES != v) return 0;
+        if (now[i] != was[i] && !is_among(rows, length, i / GT_RING_PLACES)) return 0;
     now = (const uint16_t *)valences.begin, was = (const uint16_t *)valences.was;
     for (size_t i = 0; i < valences_length; i++)
-        if (now[i] != was[i] && i != v) return 0;
+        if (now[i] != was[i] && !is_among(rows, length, i)) return 0;
     return 1;
 }
 
@@ -47,7 +54,7 @@ static void hold_edit(gt_value answer, size_t count, size_t v) {
     hold_value(answer);
     HOLD(answer.value == 0);
     if (answer.number) return;
-    HOLD(other_rows_unchanged(v));
+    HOLD(other_rows_unchanged(&v, 1));
     HOLD((guard_unchanged(&valences) && guard_unchanged(&rings)) || row_in_order(count, v));
     remember_tables();
 }
@@ -161,11 +168,36 @@ static gt_value call_write(size_t count, size_t length) {
     return answer;
 }
 
+/* The edits of the mesh. */
+enum { SPLIT_EDGE, SPLIT_FACE, FLIP, RESHAPINGS };
+
+static gt_counts call_reshape(size_t edit, size_t count, const size_t *named) {
+    gt_counts answer;
+    switch (edit) {
+    case SPLIT_EDGE: ASK(answer, split_edge, VALENCES, RINGS, POSITIONS, count, named[0], named[1]); break;
+    case SPLIT_FACE: ASK(answer, split_face, VALENCES, RINGS, POSITIONS, count, named[0], named[1], named[2]); break;
+    default: ASK(answer, flip, VALENCES, RINGS, POSITIONS, count, named[0], named[1]);
+    }
+    hold_counts(answer);
+    return answer;
+}
+
+/* Every edit of the mesh with any numbers. */
+static void try_any_reshaping(size_t count) {
+    for (size_t edit = 0; edit < RESHAPINGS; edit++) {
+        size_t named[3];
+        for (size_t k = 0; k < 3; k++) named[k] = around(count);
+        call_reshape(edit, count, named);
+        remember_tables();
+    }
+}
+
 /* Everything on tables of noise. */
 static void try_noise(void) {
     lend_noise_tables();
     size_t rows = valences_length, count = below(4) ? rows : below(2) ? around(rows) : 1023 + below(4), levels = below(7), length = below(10);
     for (size_t i = 0; i < 4; i++) try_edits(count);
+    try_any_reshaping(count);
     call_check(count);
     lend_moves(count, length, 1);
     call_moves(count, levels, length);
@@ -188,6 +220,13 @@ static void random_mesh(control_mesh *m) {
     }
     mesh_flip_random(m, &state, below(3) ? 4 * m->count : 0, 32);
     mesh_random_positions(m, &state, below(3) ? GT_GREATEST_COORDINATE : 5);
+}
+
+/* A double cone whose tips are full or nearly, perhaps with a vertex of valence 3 beside one of them. */
+static void full_mesh(control_mesh *m) {
+    mesh_double_cone(m, 30 + below(3));
+    if (below(2)) mesh_split(m, 0, below(m->valences[0]));
+    mesh_random_positions(m, &state, GT_GREATEST_COORDINATE);
 }
 
 /* A mesh's file, written, read back, cut and changed. */
@@ -405,6 +444,7 @@ static void try_damaged(const control_mesh *m) {
     }
     remember_tables();
     call_check(m->count);
+    try_any_reshaping(m->count);
     for (size_t i = 0; i < 12; i++) try_edits(m->count);
     lend_moves(m->count, 2, 1);
     call_moves(m->count, 1, 2);
@@ -413,11 +453,136 @@ static void try_damaged(const control_mesh *m) {
     if (checked.number) HOLD(refined.number == checked.number && refined.place == checked.place);
 }
 
+/* The control mesh that stands in the tables, without what lies behind its rings. */
+static void take_mesh(control_mesh *m, size_t count) {
+    m->count = count;
+    memcpy(m->valences, valences.begin, 2 * count);
+    memcpy(m->rings, rings.begin, 2 * GT_RING_PLACES * count);
+    memcpy(m->positions, positions.begin, 12 * count);
+    for (size_t v = 0; v < count; v++)
+        for (size_t i = m->valences[v]; i < GT_RING_PLACES; i++) m->rings[GT_RING_PLACES * v + i] = GT_NULL_VERTEX;
+}
+
+/* Names a face of the mesh from any corner, and so an edge from either end; now and then something else. */
+static void some_names(const control_mesh *m, size_t *named) {
+    size_t v = below(m->count), first = below(3), corners[3];
+    mesh_face(m, v, below(m->valences[v]), corners);
+    named[first] = corners[1], named[(first + 1) % 3] = corners[0], named[(first + 2) % 3] = corners[2];
+    if (below(8) == 0) named[below(3)] = around(m->count);
+    if (below(16) == 0) named[below(3)] += 65536;
+}
+
+/* The vertices that an accepted edit writes, the new one last; of an edge its ends and those beside it. */
+static size_t rows_of(size_t edit, const control_mesh *m, const size_t *named, size_t *written) {
+    mesh_edge e = mesh_edge_at(m, named[0], mesh_place(m, named[0], named[1]));
+    size_t k = 2;
+    written[0] = e.p, written[1] = e.q;
+    if (edit == SPLIT_FACE) written[k++] = named[2];
+    else written[k++] = e.a, written[k++] = e.b;
+    if (edit != FLIP) written[k++] = m->count;
+    return k;
+}
+
+/* Holds an accepted edit to the counts, rows and points that it may change, and the mesh to the check. */
+static void hold_reshaped(size_t edit, const control_mesh *m, const size_t *written, size_t length, gt_counts before,
+                          gt_counts answer) {
+    size_t more = edit != FLIP, old = 12 * m->count, new = old + 12 * more;
+    HOLD(answer.v == before.v + more && answer.e == before.e + 3 * more && answer.f == before.f + 2 * more);
+    HOLD(other_rows_unchanged(written, length));
+    for (size_t k = 0; k < length; k++) HOLD(row_in_order(answer.v, written[k]));
+    HOLD(memcmp(positions.begin, positions.was, old) == 0);
+    HOLD(memcmp(positions.begin + new, positions.was + new, positions.bytes - new) == 0);
+    remember_tables();
+    gt_counts checked = call_check(answer.v);
+    HOLD(same_answer(&checked, &answer, sizeof answer));
+}
+
+/* Is the ring of v the same in both meshes up to where it begins? */
+static int same_round(const control_mesh *one, const control_mesh *other, size_t v) {
+    size_t n = one->valences[v], from = mesh_place(other, v, one->rings[GT_RING_PLACES * v]);
+    for (size_t i = 0; i < n; i++)
+        if (one->rings[GT_RING_PLACES * v + i] != other->rings[GT_RING_PLACES * v + (from + i) % n]) return 0;
+    return other->valences[v] == n;
+}
+
+/* Flips the new edge, which gives back the old mesh. */
+static void flip_back(const control_mesh *m, const size_t *joined) {
+    static control_mesh now;
+    HOLD(call_reshape(FLIP, m->count, joined).number == 0);
+    take_mesh(&now, m->count);
+    for (size_t v = 0; v < m->count; v++) HOLD(same_round(&now, m, v));
+    HOLD(guard_unchanged(&positions));
+    remember_tables();
+}
+
+/* One edit of the sound mesh in the tables; answers how many vertices it has then. */
+static size_t try_edit_of_mesh(size_t edit, size_t count) {
+    static control_mesh m;
+    size_t named[3], written[5];
+    take_mesh(&m, count);
+    some_names(&m, named);
+    gt_counts before = call_check(count), answer = call_reshape(edit, count, named);
+    HOLD(before.number == 0);
+    if (answer.number == GT_NO_ROOM) HOLD(edit != FLIP && valences_length == count);
+    if (answer.number) return count;
+    size_t length = rows_of(edit, &m, named, written);
+    hold_reshaped(edit, &m, written, length, before, answer);
+    if (edit == FLIP && below(2)) flip_back(&m, written + 2);
+    return answer.v;
+}
+
+/* Edits a mesh again and again, as long as there is room; then it can be refined, moved and written like any other. */
+static void try_reshaping(const control_mesh *m) {
+    static control_mesh edited;
+    size_t count = m->count;
+    lend_mesh(m, count + below(8), 1);
+    for (size_t v = 0; v < count; v++)
+        for (size_t i = m->valences[v]; i < GT_RING_PLACES; i++)
+            ((uint16_t *)rings.begin)[GT_RING_PLACES * v + i] = (uint16_t)below(count);
+    remember_tables();
+    for (size_t k = 0; k < 12; k++) count = try_edit_of_mesh(below(RESHAPINGS), count);
+    take_mesh(&edited, count);
+    try_moves(&edited);
+    try_file(&edited);
+}
+
+/* Just the room that a split needs, or one item less in one of the tables. */
+static void try_new_row(const control_mesh *m) {
+    size_t named[3], corners[3], short_by = below(4);
+    lend_mesh(m, m->count + 1, 1);
+    if (short_by == 1) shorten(&valences, 2, &valences_length);
+    if (short_by == 2) shorten(&rings, 2, &rings_length);
+    if (short_by == 3) shorten(&positions, 4, &positions_length);
+    remember_tables();
+    mesh_face(m, 0, 0, corners);
+    named[0] = corners[1], named[1] = corners[0], named[2] = corners[2];
+    gt_counts answer = call_reshape(below(2) ? SPLIT_EDGE : SPLIT_FACE, m->count, named);
+    if (answer.number != GT_RING_FULL) HOLD(answer.number == (short_by ? (uint32_t)GT_NO_ROOM : (uint32_t)GT_ACCEPTED));
+}
+
+/* A mesh of nearly the most vertices is split until it has them; from there on a split is refused, a flip is not. */
+static void try_most(void) {
+    static control_mesh m;
+    size_t count = GT_MOST_VERTICES - 2, flips = 0;
+    mesh_sphere(&m, &state, count);
+    mesh_random_positions(&m, &state, GT_GREATEST_COORDINATE);
+    lend_mesh(&m, GT_MOST_VERTICES + 1, 1);
+    remember_tables();
+    while (count < GT_MOST_VERTICES) count = try_edit_of_mesh(below(2) ? SPLIT_EDGE : SPLIT_FACE, count);
+    for (size_t k = 0; k < 12; k++) {
+        size_t before = accepted_calls;
+        HOLD(try_edit_of_mesh(k % RESHAPINGS, count) == count);
+        flips += k % RESHAPINGS == FLIP && accepted_calls > before + 1;
+    }
+    HOLD(flips > 0);
+}
+
 int main(int argc, char **argv) {
     uint64_t seed = argc > 1 ? strtoull(argv[1], NULL, 10) : 1;
     size_t rounds = argc > 2 ? (size_t)strtoull(argv[2], NULL, 10) : 1000;
     static control_mesh m;
     state = seed * 0x2545f4914f6cdd1du;
+    try_most();
     for (rounds_done = 0; rounds_done < rounds; rounds_done++) {
         for (size_t i = 0; i < 8; i++) try_noise();
         random_mesh(&m);
@@ -426,6 +591,10 @@ int main(int argc, char **argv) {
         try_altered(&m);
         try_lengths(&m);
         try_damaged(&m);
+        try_reshaping(&m);
+        try_new_row(&m);
+        full_mesh(&m);
+        try_reshaping(&m);
     }
     printf("fuzz: seed %llu, %zu rounds, %zu calls, %zu accepted, nothing wrong\n", (unsigned long long)seed, rounds, calls,
            accepted_calls);

@@ -1,5 +1,5 @@
-/* Holds what the header itself defines, versions and helpers, to what it says of them and to the library. It reads as
- * C99 and as C++11. Ends with 1 at the first claim that is not true. */
+/* Holds what the header itself defines, versions and helpers, to what it says of them and to the library, and the library
+ * to having every call. It reads as C99 and as C++11. Ends with 1 at the first claim that is not true. */
 #include <stdio.h>
 #include <stdlib.h>
 #include "meshes.h"
@@ -23,7 +23,7 @@ static void fail(const char *claim, int line) {
     exit(1);
 }
 
-static int is_reason(uint32_t number) { return number <= GT_FILE_LAYOUT || number == GT_UNKNOWN_KIND; }
+static int is_reason(uint32_t number) { return number <= GT_CANNOT_FLIP || number == GT_UNKNOWN_KIND; }
 
 /* Every reason has a text of its own, and no other number has one. */
 static void try_reasons(void) {
@@ -35,6 +35,21 @@ static void try_reasons(void) {
     }
     HOLD(strcmp(gt_reason(GT_ACCEPTED), "accepted") == 0);
     HOLD(strcmp(gt_reason(UINT32_MAX), "unknown reason") == 0);
+}
+
+/* Every call that the header declares is in the archive; answers how many they are. */
+static size_t try_calls(void) {
+    typedef void (*any_call)(void);
+    static const any_call all[] = {
+        (any_call)gt_check, (any_call)gt_refine, (any_call)gt_moves, (any_call)gt_read, (any_call)gt_write,
+        (any_call)gt_split_edge, (any_call)gt_split_face, (any_call)gt_flip, (any_call)gt_make, (any_call)gt_erase,
+        (any_call)gt_replace, (any_call)gt_insert_after, (any_call)gt_insert_before, (any_call)gt_contains,
+        (any_call)gt_next, (any_call)gt_prev, (any_call)gt_valence,
+    };
+    size_t count = sizeof all / sizeof *all;
+    for (size_t i = 0; i < count; i++)
+        for (size_t k = 0; k < i; k++) HOLD(all[k] != all[i]);
+    return count;
 }
 
 static gt_counts refine(size_t rows, size_t places, size_t coordinates, size_t levels) {
@@ -101,7 +116,7 @@ static void try_bits(void) {
 
 int main(void) {
     uint64_t state = 5;
-    HOLD(GT_VERSION_MAJOR == 1 && GT_VERSION_MINOR == 0 && GT_VERSION_PATCH == 0 && GT_VERSION == 10000);
+    HOLD(GT_VERSION_MAJOR == 1 && GT_VERSION_MINOR == 1 && GT_VERSION_PATCH == 0 && GT_VERSION == 10100);
     HOLD(gt_stack_rows(4, 6, 1) == 14 && gt_stack_rows(6, 12, 4) == 1374);
     try_reasons();
     try_bits();
@@ -111,7 +126,7 @@ int main(void) {
     mesh_torus(&mesh, 4, 8), try_mesh(4);     /* rows that fill their last word */
     mesh_sphere(&mesh, &state, 200), try_mesh(4);
     mesh_sphere(&mesh, &state, GT_MOST_VERTICES), try_mesh(2);
-    printf("the header's helpers hold: version %d.%d.%d, %d reasons, %zu stacks, %zu lists of moves\n",
-           GT_VERSION_MAJOR, GT_VERSION_MINOR, GT_VERSION_PATCH, GT_FILE_LAYOUT + 2, stacks, lists);
+    printf("the header's helpers hold: version %d.%d.%d, %zu calls, %d reasons, %zu stacks, %zu lists of moves\n",
+           GT_VERSION_MAJOR, GT_VERSION_MINOR, GT_VERSION_PATCH, try_calls(), GT_CANNOT_FLIP + 2, stacks, lists);
     return 0;
 }

@@ -20,6 +20,9 @@ static void fail(const char *what) {
 extern __typeof__(gt_check) twin_check;
 extern __typeof__(gt_refine) twin_refine;
 extern __typeof__(gt_moves) twin_moves;
+extern __typeof__(gt_split_edge) twin_split_edge;
+extern __typeof__(gt_split_face) twin_split_face;
+extern __typeof__(gt_flip) twin_flip;
 extern __typeof__(gt_read) twin_read;
 extern __typeof__(gt_write) twin_write;
 extern __typeof__(gt_make) twin_make;
@@ -90,7 +93,7 @@ static void hold_call(uint32_t number, size_t place, int any_count) {
     calls++;
     accepted_calls += number == 0;
     HOLD(guard_intact(&valences) && guard_intact(&rings) && guard_intact(&positions) && guard_intact(&map));
-    HOLD(number <= 17 || number == GT_UNKNOWN_KIND);
+    HOLD(number <= GT_CANNOT_FLIP || number == GT_UNKNOWN_KIND);
     if (number == 0) HOLD(place == 0);
     else HOLD(tables_unchanged() && !any_count);
 }

@@ -63,16 +63,40 @@ static inline void mesh_split(control_mesh *m, size_t v, size_t i) {
     mesh_insert_after(m, w, v, x);
 }
 
+/* An edge: its ends p and q, and the neighbours a and b of p after and before q. */
+typedef struct {
+    size_t p, q, a, b;
+} mesh_edge;
+
+/* The edge at place i of p. */
+static inline mesh_edge mesh_edge_at(const control_mesh *m, size_t p, size_t i) {
+    const uint16_t *row = m->rings + GT_RING_PLACES * p;
+    size_t n = m->valences[p];
+    mesh_edge e = {p, row[i], row[(i + 1) % n], row[(i + n - 1) % n]};
+    return e;
+}
+
+/* Can a and b be joined instead of p and q, with valences of at most the greatest? */
+static inline int mesh_can_flip(const control_mesh *m, mesh_edge e, size_t greatest) {
+    return m->valences[e.p] > 3 && m->valences[e.q] > 3 && m->valences[e.a] < greatest && m->valences[e.b] < greatest &&
+           mesh_place(m, e.a, e.b) == m->valences[e.a];
+}
+
+/* The first edge from a vertex on that can be flipped, of those of a vertex the last; there is one. */
+static inline mesh_edge mesh_some_flip(const control_mesh *m, size_t from) {
+    for (size_t i = m->valences[from]; i > 0; i--)
+        if (mesh_can_flip(m, mesh_edge_at(m, from, i - 1), GT_RING_PLACES)) return mesh_edge_at(m, from, i - 1);
+    return mesh_some_flip(m, (from + 1) % m->count);
+}
+
 /* Turns the edge at place i of p round in its two triangles, unless valences or an edge that is there forbid it. */
 static inline void mesh_flip(control_mesh *m, size_t p, size_t i, size_t greatest) {
-    const uint16_t *row = m->rings + GT_RING_PLACES * p;
-    size_t n = m->valences[p], q = row[i], a = row[(i + 1) % n], b = row[(i + n - 1) % n];
-    if (n < 4 || m->valences[q] < 4 || m->valences[a] >= greatest || m->valences[b] >= greatest) return;
-    if (mesh_place(m, a, b) < m->valences[a]) return;
-    mesh_insert_after(m, a, p, b);
-    mesh_insert_after(m, b, q, a);
-    mesh_erase(m, p, q);
-    mesh_erase(m, q, p);
+    mesh_edge e = mesh_edge_at(m, p, i);
+    if (!mesh_can_flip(m, e, greatest)) return;
+    mesh_insert_after(m, e.a, e.p, e.b);
+    mesh_insert_after(m, e.b, e.q, e.a);
+    mesh_erase(m, e.p, e.q);
+    mesh_erase(m, e.q, e.p);
 }
 
 static inline void mesh_flip_random(control_mesh *m, uint64_t *state, size_t times, size_t greatest) {

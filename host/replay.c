@@ -4,17 +4,22 @@
  *
  * A file begins with RNGCASE1 and holds cases for every call: its inputs, the answer, and for each lent table the runs
  * in which it differs afterwards. Every table is lent in guarded memory. Cases of the listing program are skipped unless
- * a command that runs it is given. Ends with 1 if a case differs, after printing the first differences. */
+ * a command that runs it is given, and those of calls and of a rounding that the library does not have. Ends with 1 if a
+ * case differs, after printing the first differences. */
 #include "guard.h"
 #include "gypsumtrot.h"
 
 enum { MAKE = 1, ERASE, REPLACE, INSERT_AFTER, INSERT_BEFORE, CONTAINS, VALENCE, NEXT, PREV, CHECK, REFINE, MOVE, READ,
-       WRITE, LISTING, CALLS };
+       WRITE, LISTING, SPLIT_EDGE, SPLIT_FACE, FLIP, CALLS };
 static const char *const names[CALLS] = {"", "make", "erase", "replace", "insert_after", "insert_before", "contains",
-    "valence", "next", "prev", "check", "refine", "moves", "read", "write", "listing"};
+    "valence", "next", "prev", "check", "refine", "moves", "read", "write", "listing", "split_edge", "split_face", "flip"};
+
+/* Skipped are cases of calls that come later, up to this number, and cases with this flag, which hold only where halves
+ * go to the even unit. */
+enum { LAST_CALL = 20, EVEN = 16 };
 
 enum { MOST_DIFFERENCES = 10, PATH_BYTES = 1024, ANSWERS = 100 };
-static size_t compared[CALLS], answers[CALLS][ANSWERS], skipped[CALLS], differences;
+static size_t compared[CALLS], answers[CALLS][ANSWERS], skipped[CALLS], foreign, differences;
 static const char *file_name;
 static size_t case_number;
 static int call;
@@ -177,6 +182,40 @@ static void replay_mesh_call(reader *r) {
     expect_table(r, &positions);
 }
 
+/* The counts of the mesh in the tables as they are expected afterwards. */
+static void expect_mesh(gt_counts answer, size_t v) {
+    uint16_t valence;
+    size_t ends = 0;
+    for (size_t i = 0; i < v; i++) {
+        memcpy(&valence, valences.guard.was + sizeof valence * i, sizeof valence);
+        ends += valence;
+    }
+    if (answer.v != v) differs("v", answer.v, v);
+    if (answer.e != ends / 2) differs("e", answer.e, ends / 2);
+    if (answer.f != ends / 3) differs("f", answer.f, ends / 3);
+}
+
+/* An edit of the mesh: cases have its number and place, the counts are those of the tables. */
+static void replay_reshaping(reader *r) {
+    size_t v = scalar(r), first = scalar(r), second = scalar(r), third = call == SPLIT_FACE ? scalar(r) : 0;
+    gt_counts answer;
+    lend_from(r, &valences);
+    lend_from(r, &rings);
+    lend_from(r, &positions);
+    switch (call) {
+    case SPLIT_EDGE: answer = gt_split_edge(VALENCES, RINGS, POSITIONS, v, first, second); break;
+    case SPLIT_FACE: answer = gt_split_face(VALENCES, RINGS, POSITIONS, v, first, second, third); break;
+    default: answer = gt_flip(VALENCES, RINGS, POSITIONS, v, first, second);
+    }
+    count_answer(answer.number);
+    expect(r, "number", answer.number);
+    expect(r, "place", answer.place);
+    expect_table(r, &valences);
+    expect_table(r, &rings);
+    expect_table(r, &positions);
+    expect_mesh(answer, answer.number ? 0 : call == FLIP ? v : v + 1);
+}
+
 static void replay_moves(reader *r) {
     size_t v = scalar(r), levels = scalar(r);
     lend_from(r, &valences);
@@ -276,10 +315,15 @@ static void replay_listing(reader *r, const char *command) {
 
 static void replay_case(reader *r, const char *listing) {
     call = *take(r, 1);
-    take(r, 3);
-    if (call < MAKE || call >= CALLS) {
+    int flags = *take(r, 1);
+    take(r, 2);
+    if (call < MAKE || call > LAST_CALL) {
         fprintf(stderr, "%s, case %zu: no such call\n", file_name, case_number);
         exit(2);
+    }
+    if (call >= CALLS || flags & EVEN) {
+        foreign++;
+        return;
     }
     if (call == LISTING && !listing) {
         skipped[call]++;
@@ -293,6 +337,7 @@ static void replay_case(reader *r, const char *listing) {
     case READ: replay_read(r); break;
     case WRITE: replay_write(r); break;
     case LISTING: replay_listing(r, listing); break;
+    case SPLIT_EDGE: case SPLIT_FACE: case FLIP: replay_reshaping(r); break;
     default: replay_ring_call(r);
     }
 }
@@ -339,6 +384,7 @@ int main(int argc, char **argv) {
         all += compared[call];
         print_counts();
     }
+    if (foreign) printf("%zu cases of other calls or of another rounding skipped\n", foreign);
     printf("%zu cases compared, %zu differences\n", all, differences);
     return differences > 0 || all == 0;
 }

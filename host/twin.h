@@ -6,6 +6,9 @@
 #define gt_check twin_check
 #define gt_refine twin_refine
 #define gt_moves twin_moves
+#define gt_split_edge twin_split_edge
+#define gt_split_face twin_split_face
+#define gt_flip twin_flip
 #define gt_read twin_read
 #define gt_write twin_write
 #define gt_make twin_make

@@ -1,4 +1,4 @@
-/* Gypsumtrot: ring tables of closed triangle meshes, Loop refinement, dragging of points, mesh files.
+/* Gypsumtrot: ring tables of closed triangle meshes, their edits, Loop refinement, dragging of points, mesh files.
  *
  * The library keeps nothing between calls and allocates nothing: every call works in tables that you lend it.
  * It has no global state, so calls on different tables may run at the same time.
@@ -33,7 +33,7 @@
 
 /* The version of this header and of the archive that goes with it. */
 #define GT_VERSION_MAJOR 1       /* grows if a program written for the version before may have to be changed */
-#define GT_VERSION_MINOR 0       /* grows if something is added, and nothing that was there changes */
+#define GT_VERSION_MINOR 1       /* grows if something is added, and nothing that was there changes */
 #define GT_VERSION_PATCH 0       /* grows if only costs or comments change, or a fault is mended */
 /* All three as one number that grows with each version: 10203 is 1.2.3. It serves in #if. */
 #define GT_VERSION (10000 * GT_VERSION_MAJOR + 100 * GT_VERSION_MINOR + GT_VERSION_PATCH)
@@ -69,19 +69,24 @@ enum {
     GT_LEVEL_COUNT = 8,          /* L is not 1 to 4; place 0 */
     GT_LEVEL_TOO_LARGE = 9,      /* a level would have over 65,535 vertices; the first such level, the control mesh
                                     being level 0 */
-    GT_NO_ROOM = 10,             /* the tables are too short for the stack, or the map or the file's room is; place 0 */
+    GT_NO_ROOM = 10,             /* the tables are too short for the stack or for a new vertex, or the map or the file's
+                                    room is; place 0 */
     GT_STACK_ALTERED = 11,       /* above level 0 a valence or ring place is not what refinement gives, or a coordinate
                                     is out of range; the lowest such stack vertex */
     GT_TOO_MANY_MOVES = 12,      /* over 64; place 0 */
     GT_NOT_FINITE = 13,          /* one of a move's three numbers is infinite or no number; its place in the list */
     GT_OUT_OF_REACH = 14,        /* a move would lead out of -1024.0 to 1024.0 millimetres; its place in the list */
     GT_NEIGHBOUR_TAKEN = 15,     /* x is v itself or already in its ring, or a list has v or a repeat in it; place 0 */
-    GT_RING_FULL = 16,           /* the ring has 32 neighbours already, or a list is longer than 32; place 0 */
+    GT_RING_FULL = 16,           /* the ring has 32 neighbours already, or a list is longer than 32; in an edit of the
+                                    mesh, a ring would pass 32 or V would pass 1,024; place 0 */
     GT_FILE_LAYOUT = 17,         /* the bytes are not a mesh file; the first byte of the record where it shows */
+    GT_NO_EDGE_OR_FACE = 18,     /* the vertices named are no edge, or no face that turns as they are named; place 0 */
+    GT_CANNOT_FLIP = 19,         /* an end of the edge has valence 3, or the vertices that a flip would join are
+                                    neighbours already; place 0 */
     GT_UNKNOWN_KIND = 99         /* a move's kind is not 0, 1 or 2; its place in the list */
 };
 
-/* What gt_check and gt_refine answer. */
+/* What gt_check, gt_refine and the edits of the mesh answer. */
 typedef struct {
     uint32_t number;             /* 0, or the reason of the refusal */
     size_t place;
@@ -92,7 +97,7 @@ typedef struct {
 typedef struct {
     uint32_t number;             /* 0, or the reason of the refusal */
     size_t place;
-    size_t value;                /* as each call says; 0 for an edit and if refused (gt_next, gt_prev: 65,535) */
+    size_t value;                /* as each call says; 0 for a ring edit and if refused (gt_next, gt_prev: 65,535) */
 } gt_value;
 
 /* A move's kinds. */
@@ -170,11 +175,42 @@ gt_value gt_read(const uint8_t *bytes, size_t bytes_length, uint16_t *valences, 
 gt_value gt_write(const uint16_t *valences, size_t valences_length, const uint16_t *rings, size_t rings_length,
                   const int32_t *positions, size_t positions_length, size_t v, uint8_t *file, size_t file_length);
 
+/* EDITS OF THE MESH work on a sound control mesh of `v` vertices; it stays sound, and V - E + F stays what it is. An edge
+ * is named by its two ends, in either order: p is the smaller, q the greater, a and b are the neighbours of p after and
+ * before q, as in gt_refine. A face is named by its three corners: a, b, c is the face with next(a in b) = c, and so are
+ * b, c, a and c, a, b; a, c, b is none. Rows that are altered are written whole, unused places with 65,535; nothing else
+ * is. Levels behind the control mesh are not kept up, and a split writes over the first row of level 1: refine anew.
+ * Reads:    the first V rows of the three tables.
+ * Answers:  V, E, F of the mesh after the edit.
+ * Refuses:  what gt_check refuses, 3, 18, 16; then gt_flip 19, the splits 10 (V + 1, 32 (V + 1), 3 (V + 1) items).
+ * Cost:     that of gt_check, and little more. */
+
+/* Splits an edge by a new vertex, number V, with the ring p, b, q, a. It comes in q's place at p and in p's place at q,
+ * after p in a, after q in b, and stands at (p + q) / 2, rounded as gt_refine does. Counts grow by 1, 3 and 2.
+ * Writes:   rows and valences p, q, a, b, V; the new point.
+ * Refuses:  16 if a or b has 32 neighbours or V is 1,024. */
+gt_counts gt_split_edge(uint16_t *valences, size_t valences_length, uint16_t *rings, size_t rings_length,
+                        int32_t *positions, size_t positions_length, size_t v, size_t p, size_t q);
+
+/* Splits a face by a new vertex, number V. Named so that a is its smallest corner, the new ring is a, c, b; it comes
+ * after a in b, after b in c, after c in a, and stands at (a + b + c) / 3, rounded likewise. Counts grow by 1, 3 and 2.
+ * Writes:   rows and valences a, b, c, V; the new point.
+ * Refuses:  16 if a, b or c has 32 neighbours or V is 1,024. */
+gt_counts gt_split_face(uint16_t *valences, size_t valences_length, uint16_t *rings, size_t rings_length,
+                        int32_t *positions, size_t positions_length, size_t v, size_t a, size_t b, size_t c);
+
+/* Flips an edge, so that a and b are joined instead of p and q: b comes after p in a, a after q in b; q goes out of p's
+ * ring, p out of q's. Counts stay. Flipping the edge a, b then gives back the old rings, up to where each begins.
+ * Writes:   rows and valences p, q, a, b; no point.
+ * Refuses:  16 if a or b has 32 neighbours; 19 if p or q has 3, or a and b are neighbours. */
+gt_counts gt_flip(uint16_t *valences, size_t valences_length, uint16_t *rings, size_t rings_length,
+                  const int32_t *positions, size_t positions_length, size_t v, size_t p, size_t q);
+
 /* RING CALLS work on the ring of one vertex v of a control table of `count` vertices; the mesh need not be sound. All
  * refuse first: 2, 1 (valences and rings), 3 for v, and, but for gt_make, 4 with place v where v's ring is improper
  * (a valence of 0, 1 or 2 is allowed here). An edit that changes the ring writes row v and valence v and nothing else;
  * unused places of the row become 65,535. An edit without effect is accepted and writes nothing.
- * Cost: 240 to 360 instructions at valence 6, 3,000 to 3,300 at valence 32: nearly all of them go into the test that
+ * Cost: 230 to 400 instructions at valence 6, 3,000 to 3,400 at valence 32: nearly all of them go into the test that
  * the ring (for gt_make, the list) is proper, which compares its places pair by pair. */
 
 /* Sets the ring of v to `list`. Refuses: 2, 1, 3; 16 (over 32); 3 at the first list place not below `count`; 15. */
@@ -222,14 +258,16 @@ static inline const char *gt_reason(uint32_t number) {
     case GT_CONTROL_COORDINATE: return "a control coordinate is out of range";
     case GT_LEVEL_COUNT: return "the number of levels is not 1 to 4";
     case GT_LEVEL_TOO_LARGE: return "a level would have over 65,535 vertices";
-    case GT_NO_ROOM: return "the room for the stack, the map or the file is too short";
+    case GT_NO_ROOM: return "the room for the stack, a new vertex, the map or the file is too short";
     case GT_STACK_ALTERED: return "a level above the control mesh is not as refinement gives it";
     case GT_TOO_MANY_MOVES: return "there are over 64 moves";
     case GT_NOT_FINITE: return "a number of a move is not finite";
     case GT_OUT_OF_REACH: return "a move leads out of -1024 to 1024 millimetres";
     case GT_NEIGHBOUR_TAKEN: return "a neighbour is the vertex itself or is there already";
-    case GT_RING_FULL: return "a ring has at most 32 neighbours";
+    case GT_RING_FULL: return "a ring has at most 32 neighbours, a control mesh 1,024 vertices";
     case GT_FILE_LAYOUT: return "the bytes are not a mesh file";
+    case GT_NO_EDGE_OR_FACE: return "the vertices named are no edge or no face";
+    case GT_CANNOT_FLIP: return "the edge cannot be flipped";
     case GT_UNKNOWN_KIND: return "the kind of a move is not 0, 1 or 2";
     default: return "unknown reason";
     }

@@ -4,10 +4,11 @@
  *   bench MESH LEVELS OPERATION REPETITIONS
  *
  * MESH is sphere:V, torus:AxB (all valences 6), wild:V (valences up to 32), tubes:AxB:N (most valences N), or cone:N (two
- * tips of valence N, the first vertex and the last). OPERATION is check, refine, drag, list, read or write; or a ring call
- * on the first vertex and the last in turn: contains, next, valence, make (the ring as it is), erase (the neighbour in the
- * middle; two repetitions at most, one a vertex). Prints the number of vertices of the stack, and its mean valence at
- * level 0. */
+ * tips of valence N, the first vertex and the last). OPERATION is check, refine, drag, list, read or write; an edit of the
+ * mesh at an edge near the middle of the tables, each repetition from where the one before left it: edge, face (which
+ * split one), flip; or a ring call on the first vertex and the last in turn: contains, next, valence, make (the ring as it
+ * is), erase (the neighbour in the middle; two repetitions at most, one a vertex). Prints the number of vertices of the
+ * stack, and its mean valence at level 0. */
 #include <stdio.h>
 #include <stdlib.h>
 #include "../meshes.h"
@@ -82,16 +83,51 @@ static int operate(char operation) {
     }
 }
 
+/* The edge that is edited, and how many vertices there are. */
+static mesh_edge edited;
+static size_t count;
+
+#define TABLES valences, rows, rings, GT_RING_PLACES * rows, positions, 3 * rows
+
+static int split_edge(void) {
+    int good = gt_split_edge(TABLES, count, edited.p, edited.q).number == 0;
+    edited.q = count++;
+    return good;
+}
+
+static int split_face(void) {
+    int good = gt_split_face(TABLES, count, edited.q, edited.p, edited.a).number == 0;
+    edited.a = count++;
+    return good;
+}
+
+/* Every second time it flips back. */
+static int flip(void) {
+    mesh_edge flipped = {edited.a, edited.b, edited.p, edited.q};
+    int good = gt_flip(TABLES, count, edited.p, edited.q).number == 0;
+    edited = flipped;
+    return good;
+}
+
+/* The edit of a name; null if it is the name of none. */
+static int (*edit_of(const char *operation))(void) {
+    static const struct { const char *name; int (*edit)(void); } edits[] = {
+        {"edge", split_edge}, {"face", split_face}, {"flip", flip}};
+    for (size_t i = 0; i < sizeof edits / sizeof *edits; i++)
+        if (strcmp(operation, edits[i].name) == 0) return edits[i].edit;
+    return NULL;
+}
+
 /* One ring call on v; the neighbour in the middle of the ring is the one that is looked for. */
 static int operate_ring(char operation, size_t v) {
-    size_t ring_places = GT_RING_PLACES * rows, count = control.count, n = control.valences[v];
+    size_t ring_places = GT_RING_PLACES * rows, n = control.valences[v];
     const uint16_t *ring = control.rings + GT_RING_PLACES * v;
     switch (operation) {
-    case 'c': return gt_contains(valences, rows, rings, ring_places, count, v, ring[n / 2]).value == 1;
-    case 'n': return gt_next(valences, rows, rings, ring_places, count, v, ring[n / 2]).value == ring[n / 2 + 1];
-    case 'v': return gt_valence(valences, rows, rings, ring_places, count, v).value == n;
-    case 'm': return gt_make(valences, rows, rings, ring_places, count, v, ring, n).number == 0;
-    case 'e': return gt_erase(valences, rows, rings, ring_places, count, v, ring[n / 2]).number == 0 && valences[v] == n - 1;
+    case 'c': return gt_contains(valences, rows, rings, ring_places, control.count, v, ring[n / 2]).value == 1;
+    case 'n': return gt_next(valences, rows, rings, ring_places, control.count, v, ring[n / 2]).value == ring[n / 2 + 1];
+    case 'v': return gt_valence(valences, rows, rings, ring_places, control.count, v).value == n;
+    case 'm': return gt_make(valences, rows, rings, ring_places, control.count, v, ring, n).number == 0;
+    case 'e': return gt_erase(valences, rows, rings, ring_places, control.count, v, ring[n / 2]).number == 0 && valences[v] == n - 1;
     default: return 0;
     }
 }
@@ -109,11 +145,12 @@ int main(int argc, char **argv) {
     levels = (size_t)atoi(argv[2]);
     prepare();
     char operation = strcmp(argv[3], "refine") == 0 ? 'f' : argv[3][0];
-    if (is_ring_call(argv[3]))
-        for (int i = atoi(argv[4]); i > 0; i--)
-            need(operate_ring(operation, i % 2 ? control.count - 1 : 0), "a ring call was refused");
-    else
-        for (int i = atoi(argv[4]); i > 0; i--) need(operate(operation), "an operation was refused");
+    int (*edit)(void) = edit_of(argv[3]), ring_call = is_ring_call(argv[3]);
+    if (edit) count = control.count, edited = mesh_some_flip(&control, count / 2);
+    for (int i = atoi(argv[4]); i > 0; i--)
+        if (edit) need(edit(), "an edit was refused");
+        else if (ring_call) need(operate_ring(operation, i % 2 ? control.count - 1 : 0), "a ring call was refused");
+        else need(operate(operation), "an operation was refused");
     printf("%zu %.1f\n", rows, (double)ends() / (double)control.count);
     return 0;
 }

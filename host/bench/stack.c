@@ -20,6 +20,7 @@ static uint32_t map[ROWS / 32 + 1];
 static uint8_t file[20000];
 static size_t file_length;
 static gt_move moves[GT_MOST_MOVES];
+static mesh_edge edge;
 static const uint16_t list[3] = {1, 2, 3};
 static volatile size_t answered;
 
@@ -32,6 +33,9 @@ static void refine(void) { answered = gt_refine(TABLES, control.count, 2).number
 static void move(void) { answered = gt_moves(TABLES, map, ROWS / 32 + 1, control.count, 2, moves, GT_MOST_MOVES).number; }
 static void write_file(void) { answered = gt_write(TABLES, control.count, file, sizeof file).number; }
 static void read_file(void) { answered = gt_read(file, file_length, TABLES).number; }
+static void flip(void) { answered = gt_flip(TABLES, control.count, edge.p, edge.q).number; }
+static void split_edge(void) { answered = gt_split_edge(TABLES, control.count, 0, rings[0]).number; }
+static void split_face(void) { answered = gt_split_face(TABLES, control.count + 1, rings[0], 0, rings[1]).number; }
 static void make(void) { answered = gt_make(RING_TABLES, control.count, 0, list, 3).number; }
 static void erase(void) { answered = gt_erase(RING_TABLES, control.count, 0, 3).number; }
 static void replace(void) { answered = gt_replace(RING_TABLES, control.count, 0, 2, 4).number; }
@@ -65,6 +69,7 @@ static size_t measure(void (*call)(void)) {
 int main(void) {
     static const struct { const char *name; void (*call)(void); } all[] = {
         {"gt_check", check}, {"gt_refine", refine}, {"gt_moves", move}, {"gt_write", write_file}, {"gt_read", read_file},
+        {"gt_flip", flip}, {"gt_split_edge", split_edge}, {"gt_split_face", split_face},
         {"gt_make", make}, {"gt_contains", contains}, {"gt_next", next}, {"gt_prev", prev}, {"gt_valence", valence},
         {"gt_erase", erase}, {"gt_replace", replace}, {"gt_insert_after", insert_after}, {"gt_insert_before", insert_before},
     };
@@ -75,6 +80,7 @@ int main(void) {
     memcpy(rings, control.rings, 2 * GT_RING_PLACES * control.count);
     file_length = gt_write(TABLES, control.count, file, sizeof file).value;
     for (size_t i = 0; i < GT_MOST_MOVES; i++) moves[i].vertex = (uint32_t)i;
+    edge = mesh_some_flip(&control, control.count / 2);
     size_t alone = measure(nothing);
     for (size_t i = 0; i < sizeof all / sizeof *all; i++) {
         size_t bytes = measure(all[i].call);

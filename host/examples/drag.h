@@ -43,6 +43,17 @@ static inline uint8_t *drag_bytes(const char *path, size_t *length) {
     return bytes;
 }
 
+/* Writes a mesh file: the bytes that gt_write has put into `file`. */
+static inline void drag_save(const char *path, const uint8_t *file, gt_value bytes) {
+    if (bytes.number) drag_stop("writing", bytes.number, bytes.place);
+    FILE *out = fopen(path, "wb");
+    if (!out || fwrite(file, 1, bytes.value, out) != bytes.value || fclose(out) != 0) {
+        perror(path);
+        exit(1);
+    }
+    printf("%zu bytes written\n", bytes.value);
+}
+
 /* Lays out as many levels as fit, at most `wanted`, above a checked control mesh. */
 static inline void drag_layout(drag_stack *s, gt_counts control, size_t wanted) {
     s->levels = s->start[0] = 0;

@@ -90,18 +90,6 @@ static void make_rings(void) {
     make_ring(TOE, toe, AROUND);
 }
 
-/* Writes the control mesh; the levels are not kept, since refinement gives them again. */
-static void save(const char *path) {
-    gt_value bytes = gt_write(TABLES, VERTICES, file, sizeof file);
-    if (bytes.number) drag_stop("writing", bytes.number, bytes.place);
-    FILE *out = fopen(path, "wb");
-    if (!out || fwrite(file, 1, bytes.value, out) != bytes.value || fclose(out) != 0) {
-        perror(path);
-        exit(1);
-    }
-    printf("%zu bytes written\n", bytes.value);
-}
-
 int main(int argc, char **argv) {
     if (argc != 2) {
         fprintf(stderr, "last FILE\n");
@@ -123,6 +111,7 @@ int main(int argc, char **argv) {
     if (touched.number) drag_stop("raising the instep", touched.number, touched.place);
     printf("instep raised: %zu of %zu points touched\n", touched.value, gt_stack_rows(control.v, control.e, LEVELS));
 
-    save(argv[1]);
+    /* Only the control mesh is kept, since refinement gives the levels again. */
+    drag_save(argv[1], file, gt_write(TABLES, VERTICES, file, sizeof file));
     return 0;
 }

@@ -1,4 +1,4 @@
-/* The program that docs/USING.md goes through piece by piece: a mesh from nothing, refined, dragged and shown. */
+/* The program that docs/USING.md goes through piece by piece: a mesh from nothing, refined, shown, dragged and edited. */
 #include <stdio.h>
 #include <stdlib.h>
 #include "gypsumtrot.h"
@@ -38,31 +38,16 @@ static void must(const char *what, uint32_t number, size_t place) {
     exit(1);
 }
 
-/* Puts vertex x into the face v, u, w, where w = next(u in v). */
-static void split(mesh *m, size_t v, size_t u, size_t w, size_t x) {
-    const uint16_t corners[3] = {(uint16_t)v, (uint16_t)u, (uint16_t)w};
-    gt_value made = gt_make(RING_TABLES(m), m->v, x, corners, 3);
-    must("make", made.number, made.place);
-    gt_value at_v = gt_insert_after(RING_TABLES(m), m->v, v, u, x);
-    must("insert at v", at_v.number, at_v.place);
-    gt_value at_u = gt_insert_after(RING_TABLES(m), m->v, u, w, x);
-    must("insert at u", at_u.number, at_u.place);
-    gt_value at_w = gt_insert_after(RING_TABLES(m), m->v, w, v, x);
-    must("insert at w", at_w.number, at_w.place);
-}
-
 static void build(mesh *m) {
     static const uint16_t rings[6][4] = {{1, 2, 3, 4}, {0, 4, 5, 2}, {0, 1, 5, 3}, {0, 2, 5, 4}, {0, 3, 5, 1}, {1, 4, 3, 2}};
-    static const int millimetres[7][3] = {{0, 0, 10}, {10, 0, 0}, {0, 10, 0}, {-10, 0, 0}, {0, -10, 0}, {0, 0, -10}, {6, 6, 6}};
-    m->v = 7;
+    static const int millimetres[6][3] = {{0, 0, 10}, {10, 0, 0}, {0, 10, 0}, {-10, 0, 0}, {0, -10, 0}, {0, 0, -10}};
+    m->v = 6;
     set_rows(m, m->v);
-    for (size_t v = 0; v < 7; v++)
-        for (size_t axis = 0; axis < 3; axis++) m->positions[3 * v + axis] = GT_UNITS_A_MILLIMETRE * millimetres[v][axis];
     for (size_t v = 0; v < 6; v++) {
         gt_value made = gt_make(RING_TABLES(m), m->v, v, rings[v], 4);
         must("make", made.number, made.place);
+        for (size_t axis = 0; axis < 3; axis++) m->positions[3 * v + axis] = GT_UNITS_A_MILLIMETRE * millimetres[v][axis];
     }
-    split(m, 0, 1, 2, 6);
     gt_counts counts = gt_check(TABLES(m), m->v);
     must("check", counts.number, counts.place);
     m->e = counts.e;
@@ -110,12 +95,24 @@ static double six_volumes(const int32_t *p, const uint16_t *corners, size_t face
     return sum;
 }
 
-/* The screen's copy of the last level, in millimetres. */
+/* The screen's copy of the last level: its points in millimetres, and its triangles. */
 static float *screen;
+static uint16_t *corners;
 
 static void show(const mesh *m, size_t i) {
     for (size_t axis = 0; axis < 3; axis++)
         screen[3 * i + axis] = (float)m->positions[3 * (start(m, LEVELS) + i) + axis] / GT_UNITS_A_MILLIMETRE;
+}
+
+/* After refining: all points and all triangles are shown. */
+static void show_all(const mesh *m) {
+    size_t from = start(m, LEVELS), count = m->rows - from;
+    screen = need(realloc(screen, 3 * count * sizeof *screen));
+    for (size_t i = 0; i < count; i++) show(m, i);
+    corners = need(realloc(corners, 3 * m->f * sizeof *corners));
+    size_t faces = triangles(m, LEVELS, corners);
+    double volume = six_volumes(m->positions + 3 * from, corners, faces);
+    printf("%zu triangles, %s seen from outside\n", faces, volume > 0 ? "counter-clockwise" : "clockwise");
 }
 
 /* One step of a drag: the vertex goes to a place, and the touched points of the last level are shown anew. */
@@ -133,6 +130,21 @@ static void drag(mesh *m, uint32_t vertex, double x, double y, double z) {
             shown++;
         }
     printf("%zu points touched, %zu of them shown anew\n", touched.value, shown);
+}
+
+/* Takes V and E over from an edit of the mesh. */
+static void edited(mesh *m, const char *what, gt_counts after) {
+    must(what, after.number, after.place);
+    m->v = after.v;
+    m->e = after.e;
+    printf("%s: %zu vertices, %zu edges, %zu faces\n", what, after.v, after.e, after.f);
+}
+
+/* Vertex 6 comes into the face at 0 between 1 and 2, vertex 7 on the edge 3, 4; then 5 and 6 are joined instead of 1 and 2. */
+static void edit(mesh *m) {
+    edited(m, "face split", gt_split_face(TABLES(m), m->v, 1, 0, 2));
+    edited(m, "edge split", gt_split_edge(TABLES(m), m->v, 4, 3));
+    edited(m, "edge flipped", gt_flip(TABLES(m), m->v, 1, 2));
 }
 
 static void save(const mesh *m, const char *path) {
@@ -153,16 +165,16 @@ int main(void) {
     mesh m = {0, 0, 0, 0, NULL, NULL, NULL, NULL};
     build(&m);
     refine(&m);
-    size_t count = m.rows - start(&m, LEVELS);
-    uint16_t *corners = need(malloc(3 * m.f * sizeof *corners));
-    size_t faces = triangles(&m, LEVELS, corners);
-    double volume = six_volumes(m.positions + 3 * start(&m, LEVELS), corners, faces);
-    printf("%zu triangles, %s seen from outside\n", faces, volume > 0 ? "counter-clockwise" : "clockwise");
-    screen = need(malloc(3 * count * sizeof *screen));
-    for (size_t i = 0; i < count; i++) show(&m, i);
+    show_all(&m);
+    drag(&m, 0, 0.0, 0.0, 11.0);
+    drag(&m, 0, 0.0, 0.0, 12.0);
+    edit(&m);
+    refine(&m);
+    show_all(&m);
     drag(&m, 6, 7.0, 7.0, 7.0);
-    drag(&m, 6, 8.0, 8.0, 8.0);
     drag(&m, 6, 8.0, 8.0, 2000.0);
+    edited(&m, "edge flipped back", gt_flip(TABLES(&m), m.v, 5, 6));
+    drag(&m, 6, 8.0, 8.0, 8.0);
     save(&m, "using.mesh");
     return 0;
 }

@@ -1,4 +1,4 @@
-/* One level above another: the rules of refinement that refining and moving share. */
+/* Points, and one level above another: the rules that refining, moving and reshaping share. */
 #ifndef LEVEL_H
 #define LEVEL_H
 

@@ -35,6 +35,11 @@ INLINE size_t place_of(const uint16_t *row, size_t length, size_t x) {
     return i;
 }
 
+/* Puts the null vertex into the places of a row behind its ring. */
+INLINE void clear_places(uint16_t *row, size_t valence) {
+    for (size_t i = valence; i < PLACES; i++) row[i] = GT_NULL_VERTEX;
+}
+
 /* The top bit of the answer is set exactly if a coordinate is beyond the range. */
 INLINE uint32_t beyond(int32_t coordinate) {
     return ((uint32_t)coordinate + FAR) | (FAR - (uint32_t)coordinate);

@@ -75,10 +75,6 @@ INLINE gt_value unfit_answer(uint32_t number, size_t v) {
     return refused(number, number == GT_RING_IMPROPER ? v : 0);
 }
 
-INLINE void clear_places(uint16_t *row, size_t valence) {
-    for (size_t i = valence; i < PLACES; i++) row[i] = GT_NULL_VERTEX;
-}
-
 gt_value gt_make(uint16_t *valences, size_t valences_length, uint16_t *rings, size_t rings_length,
                  size_t count, size_t v, const uint16_t *list, size_t list_length) {
     uint32_t number = unfit(valences, valences_length, rings, rings_length, count, v, 0);

@@ -3,6 +3,7 @@
 use crate::calls::{self, Bring, Tables};
 use crate::document::*;
 use crate::format::*;
+use crate::reshape;
 
 fn nothing(_: ()) -> Vec<usize> {
     vec![]
@@ -90,6 +91,24 @@ pub fn moves_call(count: usize, levels: usize, mut t: Tables, mut map: Vec<u32>,
     case.answer(calls::moves(&mut t, &mut map, count, levels, list), |touched| vec![touched], &[0]);
     case.mesh_runs(&before, &t);
     case.runs(&map_before, &map);
+    case
+}
+
+/// An edit of the mesh; the format has no counts for it.
+pub fn reshape_call(call: u8, count: usize, named: &[usize], mut t: Tables) -> Case {
+    let before = t.clone();
+    let mut case = Case::new(call);
+    case.scalar(count);
+    named.iter().for_each(|&v| case.scalar(v));
+    case.mesh_tables(&t);
+    let answer = match *named {
+        [u, v] if call == SPLIT_EDGE => reshape::split_edge(&mut t, count, u, v),
+        [u, v] => reshape::flip(&mut t, count, u, v),
+        [u, v, w] => reshape::split_face(&mut t, count, [u, v, w]),
+        _ => panic!("an edge or a face"),
+    };
+    case.answer(answer.map(|_| ()), nothing, &[]);
+    case.mesh_runs(&before, &t);
     case
 }
 

@@ -42,7 +42,7 @@ impl Tables {
         self.valences.len() >= count && self.rings.len() >= PLACES * count
     }
 
-    fn rows(&self, count: usize) -> bool {
+    pub fn rows(&self, count: usize) -> bool {
         self.ring_rows(count) && self.positions.len() >= 3 * count
     }
 

@@ -7,6 +7,7 @@ use crate::format::*;
 use crate::meshes::*;
 use crate::move_cases::*;
 use crate::random::Random;
+use crate::reshape_cases;
 use crate::tables::*;
 
 /// A table and vertex for a ring call: now and then a short, a full or an improper ring.
@@ -307,5 +308,6 @@ pub fn all(seed: u64, rounds: usize) -> Vec<Case> {
             cases.push(move_case(&random, 8000));
         }
     }
+    reshape_cases::all(&random, rounds, &mut cases);
     cases
 }

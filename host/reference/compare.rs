@@ -55,6 +55,11 @@ fn again(call: u8, body: &mut Body) -> Case {
         READ => read_call(&body.table(u8::from_le_bytes), body.mesh_tables()),
         WRITE => write_call(body.scalar(), body.mesh_tables(), body.table(u8::from_le_bytes)),
         LISTING => listing_call(&body.table(u8::from_le_bytes)),
+        SPLIT_EDGE | SPLIT_FACE | FLIP => {
+            let count = body.scalar();
+            let named: Vec<usize> = (0..if call == SPLIT_FACE { 3 } else { 2 }).map(|_| body.scalar()).collect();
+            reshape_call(call, count, &named, body.mesh_tables())
+        }
         _ => {
             let mut inputs = RingInputs { count: body.scalar(), v: body.scalar(), ..RingInputs::default() };
             inputs.a = if brings(call) { body.scalar() } else { 0 };
@@ -86,16 +91,22 @@ fn agrees(case: &Case, rest: &mut Body) -> bool {
     agrees && rest.0.is_empty()
 }
 
-/// Compares every case of a file; answers how many there are and which differ.
-pub fn compare(file: &[u8]) -> (usize, Vec<usize>) {
+/// Compares every case of a file but those of later calls and of another rounding; answers how many were compared, how
+/// many skipped, and which differ.
+pub fn compare(file: &[u8]) -> (usize, usize, Vec<usize>) {
     let mut file = Body(file);
     assert_eq!(file.take(8), b"RNGCASE1");
-    let cases = file.scalar();
-    let differs = |_: &usize| {
+    let (cases, mut skipped, mut different) = (file.scalar(), 0, vec![]);
+    for i in 0..cases {
         let length = file.scalar();
         let mut body = Body(file.take(length));
-        let call = body.take(4)[0];
-        !agrees(&again(call, &mut body), &mut body)
-    };
-    (cases, (0..cases).filter(differs).collect())
+        let head = body.take(4);
+        let (call, flags) = (head[0], head[1]);
+        if call > FLIP || flags & EVEN != 0 {
+            skipped += 1;
+        } else if !agrees(&again(call, &mut body), &mut body) {
+            different.push(i);
+        }
+    }
+    (cases - skipped, skipped, different)
 }

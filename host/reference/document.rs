@@ -99,7 +99,7 @@ pub fn edges(rings: &[Vec<usize>]) -> Vec<(usize, usize)> {
 }
 
 /// The two vertices beside an edge: a = next(q in p), b = prev(q in p).
-fn beside(rings: &[Vec<usize>], (p, q): (usize, usize)) -> (usize, usize) {
+pub fn beside(rings: &[Vec<usize>], (p, q): (usize, usize)) -> (usize, usize) {
     (next(&rings[p], q).unwrap(), prev(&rings[p], q).unwrap())
 }
 

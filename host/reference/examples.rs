@@ -1,7 +1,8 @@
-//! The small meshes that document 01 gives with their answers, held against the reference itself.
+//! The small meshes of document 01 with the answers that it and order 1 give, held against the reference itself.
 
 use crate::calls::{self, Tables};
 use crate::document::*;
+use crate::reshape;
 
 fn mesh(rings: &[&[usize]], points: &[Point], rows: usize) -> Tables {
     let mut t = Tables::with_rows(rows);
@@ -12,12 +13,12 @@ fn mesh(rings: &[&[usize]], points: &[Point], rows: usize) -> Tables {
     t
 }
 
-fn tetrahedron(rows: usize) -> Tables {
+pub fn tetrahedron(rows: usize) -> Tables {
     let points = [[0, 0, 0], [1024, 0, 0], [0, 1024, 0], [0, 0, 1024]];
     mesh(&[&[1, 2, 3], &[0, 3, 2], &[0, 1, 3], &[0, 2, 1]], &points, rows)
 }
 
-fn octahedron(rows: usize) -> Tables {
+pub fn octahedron(rows: usize) -> Tables {
     let rings: [&[usize]; 6] = [&[1, 2, 3, 4], &[0, 4, 5, 2], &[0, 1, 5, 3], &[0, 2, 5, 4], &[0, 3, 5, 1], &[1, 4, 3, 2]];
     mesh(&rings, &[[0, 0, 0]; 6], rows)
 }
@@ -47,6 +48,34 @@ fn meshes() {
     assert_eq!(next(&tetrahedron(4).ring(0), 0), None);
 }
 
+fn has(t: &Tables, rings: &[(usize, &[usize])]) {
+    rings.iter().for_each(|&(v, ring)| assert_eq!(t.ring(v), ring));
+}
+
+/// The tetrahedron and the octahedron with an edge or a face split, and with an edge flipped there and back.
+fn reshapings() {
+    for (u, v) in [(0, 1), (1, 0)] {
+        let mut t = tetrahedron(5);
+        assert_eq!(reshape::split_edge(&mut t, 4, u, v), Ok((5, 9, 6)));
+        has(&t, &[(0, &[4, 2, 3]), (1, &[4, 3, 2]), (2, &[0, 4, 1, 3]), (3, &[0, 2, 1, 4]), (4, &[0, 3, 1, 2])]);
+        assert_eq!(t.point(4), [512, 0, 0]);
+    }
+    for named in [[0, 1, 3], [1, 3, 0], [3, 0, 1]] {
+        let mut t = tetrahedron(5);
+        assert_eq!(reshape::split_face(&mut t, 4, named), Ok((5, 9, 6)));
+        has(&t, &[(0, &[1, 2, 3, 4]), (1, &[0, 4, 3, 2]), (2, &[0, 1, 3]), (3, &[0, 2, 1, 4]), (4, &[0, 3, 1])]);
+        assert_eq!(t.point(4), [341, 0, 341]);
+    }
+    let (mut t, mut o) = (tetrahedron(4), octahedron(6));
+    assert_eq!(reshape::split_face(&mut t, 4, [0, 3, 1]), refuse(18, 0));
+    assert_eq!(reshape::split_edge(&mut t, 4, 0, 1), refuse(10, 0));
+    assert_eq!(reshape::flip(&mut t, 4, 0, 1), refuse(19, 0));
+    assert_eq!(reshape::flip(&mut o, 6, 1, 0), Ok((6, 12, 8)));
+    has(&o, &[(0, &[2, 3, 4]), (1, &[4, 5, 2]), (2, &[0, 4, 1, 5, 3]), (4, &[0, 3, 5, 1, 2])]);
+    assert_eq!(reshape::flip(&mut o, 6, 4, 2), Ok((6, 12, 8)));
+    has(&o, &[(0, &[2, 3, 4, 1]), (1, &[4, 5, 2, 0]), (2, &[0, 1, 5, 3]), (4, &[0, 3, 5, 1])]);
+}
+
 fn floats() {
     let shift = Move { vertex: 0, kind: 1, numbers: [0.1, 0.0, 0.0] };
     assert_eq!(moved([77, 0, 0], &place(0, 0.1)), Ok([102, 0, 0]));
@@ -71,6 +100,7 @@ fn listings() {
 
 pub fn hold() {
     meshes();
+    reshapings();
     floats();
     listings();
 }

@@ -18,9 +18,14 @@ pub const MOVES: u8 = 12;
 pub const READ: u8 = 13;
 pub const WRITE: u8 = 14;
 pub const LISTING: u8 = 15;
+pub const SPLIT_EDGE: u8 = 16;
+pub const SPLIT_FACE: u8 = 17;
+pub const FLIP: u8 = 18;
 
 const RAGGED: u8 = 1;
 const WIDE: u8 = 2;
+/// Set in cases of others that hold only where halves go to the even unit.
+pub const EVEN: u8 = 16;
 
 pub trait Item: Copy + PartialEq {
     fn put(self, out: &mut Vec<u8>);
@@ -36,11 +41,12 @@ macro_rules! little_endian_item {
 little_endian_item!(u8, u16, u32, i32);
 
 /// One case while it is written: first inputs, then the answer, then the tables. How its answer reads and what its
-/// tables hold before and after, with the size of their items, is kept beside it.
+/// tables hold before and after, with the size of their items, is kept beside it, and whether every sample has it.
 pub struct Case {
     pub bytes: Vec<u8>,
     pub answer: Vec<u8>,
     pub tables: Vec<(Vec<u8>, Vec<u8>, usize)>,
+    pub kept: bool,
 }
 
 fn bytes_of<T: Item>(table: &[T]) -> Vec<u8> {
@@ -51,7 +57,7 @@ fn bytes_of<T: Item>(table: &[T]) -> Vec<u8> {
 
 impl Case {
     pub fn new(call: u8) -> Case {
-        Case { bytes: vec![call, 0, 0, 0], answer: vec![], tables: vec![] }
+        Case { bytes: vec![call, 0, 0, 0], answer: vec![], tables: vec![], kept: false }
     }
 
     pub fn scalar(&mut self, number: usize) {

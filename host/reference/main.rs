@@ -1,4 +1,4 @@
-//! An independent implementation of document 01, and cases with the answers that it gives.
+//! An independent implementation of document 01 and of order 1 of document 02, and cases with the answers that it gives.
 //!
 //!   reference cases SEED ROUNDS FILE              writes seeded cases
 //!   reference sample SEED ROUNDS EACH MOST FILE   writes EACH of them for each answer of each call, of at most MOST bytes
@@ -15,6 +15,8 @@ mod format;
 mod meshes;
 mod move_cases;
 mod random;
+mod reshape;
+mod reshape_cases;
 mod sample;
 mod tables;
 
@@ -44,8 +46,8 @@ fn main() -> std::io::Result<()> {
             write(path, &sample::sample(cases, number(each), number(most)))
         }
         ["compare", path] => {
-            let (cases, different) = compare::compare(&std::fs::read(path)?);
-            println!("{cases} cases compared, {} differ {different:?}", different.len());
+            let (cases, skipped, different) = compare::compare(&std::fs::read(path)?);
+            println!("{cases} cases compared, {skipped} skipped, {} differ {different:?}", different.len());
             std::process::exit(!different.is_empty() as i32)
         }
         ["listing"] => {

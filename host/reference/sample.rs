@@ -1,4 +1,5 @@
-//! A few of many cases: some of each answer of each call, and none that is large, so that a small file meets every refusal.
+//! A few of many cases: some of each answer of each call, and none that is large, so that a small file meets every refusal;
+//! and those that every sample has.
 
 use crate::format::{Case, LISTING};
 use std::collections::HashMap;
@@ -13,7 +14,8 @@ fn kind(case: &Case) -> (u8, Vec<u8>) {
     (call, refusal.iter().copied().take_while(|&byte| byte != b' ').collect())
 }
 
-/// The first `each` cases of every kind that have at most `most` bytes, or the smallest where all have more.
+/// The first `each` cases of every kind that have at most `most` bytes, or the smallest where all have more. Cases that
+/// every sample has come besides.
 pub fn sample(cases: Vec<Case>, each: usize, most: usize) -> Vec<Case> {
     let mut least = HashMap::new();
     for case in &cases {
@@ -22,6 +24,9 @@ pub fn sample(cases: Vec<Case>, each: usize, most: usize) -> Vec<Case> {
     }
     let mut taken = HashMap::new();
     let chosen = |case: &Case| {
+        if case.kept {
+            return true;
+        }
         let kind = kind(case);
         let fits = case.bytes.len() <= most.max(least[&kind]);
         let count = taken.entry(kind).or_insert(0);

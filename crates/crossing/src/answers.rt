@@ -7,6 +7,8 @@ ghost use Rattle.ring_query.specs.Paper.{paperAnswer, paperNeighbour};
 ghost use Rattle.crossing.specs.Crossing.{countsPaper, valuePaper};
 use super::CountsAnswer;
 use super::ValueAnswer;
+use reasons::number;
+use reasons::place;
 use ring_query::Answer;
 use ring_query::Neighbour;
 use rings::Amount;
@@ -14,8 +16,6 @@ use rings::Counted;
 use rings::NULL_VERTEX;
 use rings::Refusal;
 use rings::Verdict;
-use rings::reasons::number;
-use rings::reasons::place;
 
 // An accepted call with this value.
 fn accepted(value: usize) -> ValueAnswer

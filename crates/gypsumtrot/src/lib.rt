@@ -2,5 +2,6 @@
 pub mod files;
 pub mod lists;
 pub mod meshes;
+pub mod reshaping;
 pub mod ring_edits;
 pub mod ring_queries;

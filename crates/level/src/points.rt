@@ -18,7 +18,7 @@ use units::edge_point;
 use units::vertex_point;
 
 // The sums of the coordinates of a ring's vertices, each moved up.
-fn ring_sums(ring: &[u16], positions: &[i32], count: usize) -> Sums
+pub fn ring_sums(ring: &[u16], positions: &[i32], count: usize) -> Sums
     requires { ⌜ Near count (now positions) ⌝ }
     requires { ⌜ count ≤ mostVertices ⌝ }
     requires { ⌜ length (now ring) ≤ mostValence ⌝ }

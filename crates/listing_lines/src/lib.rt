@@ -8,9 +8,9 @@ ghost use Rattle.listing_lines.specs.Lines.{word, countsLine, vertexLine
 ghost use Rattle.numerals.specs.Wrote.{Wrote};
 use numerals::put_coordinate;
 use numerals::put_number;
+use reasons::number;
+use reasons::place;
 use rings::Refusal;
-use rings::reasons::number;
-use rings::reasons::place;
 
 const BLANK: u8 = 32;
 

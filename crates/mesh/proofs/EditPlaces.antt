@@ -48,7 +48,7 @@ opened-times y [] (suc i) x = refl
 opened-times y (a ∷ l) zero x = refl
 opened-times y (a ∷ l) (suc i) x = omega (arith, opened-times y l i x)
 
--- ---- closed: opening the place again gives the list back
+-- ---- closed: opening and closing a place undo one another
 
 pub opened-closed : (l : List ℕ) (i : ℕ) → i < length l → opened (closed l i) i (getD l i 0) ≡ l
 unfolding opened closed
@@ -56,8 +56,20 @@ opened-closed [] i h = absurd (not-suc-le-zero h)
 opened-closed (a ∷ l) zero h = refl
 opened-closed (a ∷ l) (suc i) h = ap (λ t. a ∷ t) (opened-closed l i (omega arith))
 
+pub closed-opened : (l : List ℕ) (i x : ℕ) → i ≤ length l → closed (opened l i x) i ≡ l
+unfolding opened closed
+closed-opened [] zero x h = refl
+closed-opened [] (suc i) x h = absurd (not-suc-le-zero h)
+closed-opened (a ∷ l) zero x h = refl
+closed-opened (a ∷ l) (suc i) x h = ap (λ t. a ∷ t) (closed-opened l i x (omega arith))
+
 pub closed-length : (l : List ℕ) (i : ℕ) → i < length l → suc (length (closed l i)) ≡ length l
 closed-length l i h = sym (opened-length (closed l i) i (getD l i 0)) ∙ ap length (opened-closed l i h)
+
+pub closed-before : (l : List ℕ) (i j : ℕ) → i < length l → j < i → getD (closed l i) j 0 ≡ getD l j 0
+closed-before l i j h k =
+    let c = closed-length l i h in
+    sym (opened-before (closed l i) i (getD l i 0) j 0 k (omega arith)) ∙ ap (λ t. getD t j 0) (opened-closed l i h)
 
 pub closed-times : (y : ℕ) (l : List ℕ) (i : ℕ) → i < length l → bit (eqb y (getD l i 0)) + times y (closed l i) ≡ times y l
 closed-times y l i h = sym (opened-times y (closed l i) i (getD l i 0)) ∙ ap (times y) (opened-closed l i h)

@@ -148,6 +148,13 @@ module _ (old new : List ℕ) (a x : ℕ) (o : Distinct old) (m : a ∈ old) (n 
           ))
           (eq-split y a)
 
+  other-distinct : Distinct new
+  other-distinct y =
+      ⊎-elim
+      (λ e. omega (arith, other y, ap bit (e .0), absent-times x y old n (e .1)))
+      (λ e. omega (arith, other y, ap bit (e .0), o y))
+      (eq-split y x)
+
 -- ---- so for the edits
 
 module _ (l : List ℕ) (o : Distinct l) where
@@ -160,6 +167,9 @@ module _ (l : List ℕ) (o : Distinct l) where
   module _ (a x : ℕ) (m : a ∈ l) (n : x ∈ l → ⊥) where
     pub replace-in : (y : ℕ) → (y ∈ replace a x l) ↔ ((y ≡ x) ⊎ ((y ∈ l) × (y ≢ a)))
     replace-in = other-in l (replace a x l) a x o m n (replace-times a l m x)
+
+    pub replace-distinct : Distinct (replace a x l)
+    replace-distinct = other-distinct l (replace a x l) a x o m n (replace-times a l m x)
 
     pub insert-after-in : (y : ℕ) → (y ∈ insertAfter a x l) ↔ ((y ≡ x) ⊎ (y ∈ l))
     insert-after-in = more-in l (insertAfter a x l) x (insert-after-times a l m x)

@@ -1,21 +1,25 @@
 -- A rounded mean stays between whole numbers that bound what it is taken of; so every level of any family of means does.
 -- Assumes nothing.
-use mathlib.Core.Path.{_≡_, sym, subst}
+use mathlib.Core.Path.{_≡_, refl, sym, ap₂, subst}
 use mathlib.Core.List.{List, [], _∷_}
 use Prim.Native.Nat.{ℕ, zero, suc, _+_, _*_, _≤_, _<_}
 use native.Mathlib.Nat.{mul-mod-right}
 use native.Mathlib.Omega.{arith}
-use lib.IntN.{ℤ, subℕ}
+use lib.IntN.{ℤ, pos, subℕ, natAbs, _+ℤ_, _*ℤ_}
 use lib.Signed.{_≤ℤ_}
-use Rattle.mesh.specs.Mask.{Term, Mask, SourcesBelow, byMask, Steps, Grounded, refined}
-use Rattle.mesh.proofs.Lifted.{depth, lifted, lifted-is, depth-falls, lifted-climbs, above-lifted, below-lifted}
+use Rattle.mesh.specs.Mask.{Term, Mask, weighted, SourcesBelow, byMask, Steps, Grounded, refined}
+use Rattle.mesh.proofs.Lifted.{depth, lifted, lifted-is, depth-falls, lifted-climbs, above-lifted, below-lifted, near-both, both-near}
 use Rattle.mesh.proofs.Means.{Between, IsMean, meanOf, mean-offset, mean-between}
-use Rattle.mesh.proofs.Refresh.{weighted-same}
 
 -- z lies from lo to hi, ends included
 pub record Within (lo hi z : ℤ) : Type 0 where
   pub low : lo ≤ℤ z
   pub high : z ≤ℤ hi
+
+-- each source of the terms does
+abbrev pub SourcesWithin : ℤ → ℤ → (ℕ → ℤ) → List Term → Type 0
+SourcesWithin lo hi at [] = Unit {0}
+SourcesWithin lo hi at (t ∷ ts) = Within lo hi (at (t .source)) × SourcesWithin lo hi at ts
 
 -- the offset that serves for both bounds, which is even
 offset : ℤ → ℤ → ℕ
@@ -33,22 +37,41 @@ module _ (lo hi : ℤ) where
   unfolding offset
   lifted-within m l h = record { low = above-lifted (offset lo hi) m lo (omega arith) l; high = below-lifted (offset lo hi) m hi (omega arith) h }
 
-  module _ (n : ℕ) (at : ℕ → ℤ) (within : (v : ℕ) → v < n → Within lo hi (at v)) where
-    sources-between : (ts : List Term) → SourcesBelow n ts → Between (lifted (offset lo hi) lo) (lifted (offset lo hi) hi) (λ v. lifted (offset lo hi) (at v)) ts
+  module _ (at : ℕ → ℤ) where
+    sources-between : (ts : List Term) → SourcesWithin lo hi at ts
+        → Between (lifted (offset lo hi) lo) (lifted (offset lo hi) hi) (λ v. lifted (offset lo hi) (at v)) ts
     sources-between [] b = tt
-    sources-between (t ∷ ts) b =
-        let w = within-lifted (at (t .source)) (within (t .source) (b .0)) in
-        (w .0, (w .1 .0, sources-between ts (b .1)))
+    sources-between (t ∷ ts) b = let w = within-lifted (at (t .source)) (b .0) in (w .0, (w .1 .0, sources-between ts (b .1)))
+
+    sources-lifted : (ts : List Term) → SourcesWithin lo hi at ts → weighted ts at ≡ weighted ts (λ v. subℕ (lifted (offset lo hi) (at v)) (offset lo hi))
+    sources-lifted [] b = refl
+    sources-lifted (t ∷ ts) b = ap₂ (λ z s. (t .weight *ℤ z) +ℤ s) (within-lifted (at (t .source)) (b .0) .1 .1) (sources-lifted ts (b .1))
 
     -- a mean of numbers within bounds is within them
-    pub mean-within : (μ : Mask) → IsMean μ → SourcesBelow n (μ .terms) → Within lo hi (byMask μ at)
+    pub mean-within-sources : (μ : Mask) → IsMean μ → SourcesWithin lo hi at (μ .terms) → Within lo hi (byMask μ at)
     unfolding byMask offset
-    mean-within μ m b =
+    mean-within-sources μ m b =
         let o : ℕ = offset lo hi in
         let c : ℕ → ℕ = λ v. lifted o (at v) in
         let w = mean-between c μ (m .positive) (m .mean) (lifted o lo) (lifted o hi) (sources-between (μ .terms) b) in
-        rw (weighted-same n at (λ v. subℕ (c v) o) (λ v h. within-lifted (at v) (within v h) .1 .1) (μ .terms) b)
+        rw (sources-lifted (μ .terms) b)
         (subst (Within lo hi) (sym (mean-offset c μ (m .positive) (m .mean) o (mul-mod-right 2 (depth lo + depth hi)) (m .nonneg))) (lifted-within (meanOf c μ (m .positive) (m .mean)) (w .0) (w .1)))
+
+  -- where a whole level is within them
+  module _ (n : ℕ) (at : ℕ → ℤ) (within : (v : ℕ) → v < n → Within lo hi (at v)) where
+    sources-within : (ts : List Term) → SourcesBelow n ts → SourcesWithin lo hi at ts
+    sources-within [] b = tt
+    sources-within (t ∷ ts) b = (within (t .source) (b .0), sources-within ts (b .1))
+
+    pub mean-within : (μ : Mask) → IsMean μ → SourcesBelow n (μ .terms) → Within lo hi (byMask μ at)
+    mean-within μ m b = mean-within-sources at μ m (sources-within (μ .terms) b)
+
+-- the range of numbers at most so far from 0
+pub near-within : (most : ℕ) (z : ℤ) → natAbs z ≤ most → Within (subℕ 0 most) (pos most) z
+near-within most z h = let b = near-both most z h in record { low = b .0; high = b .1 }
+
+pub within-near : (most : ℕ) (z : ℤ) → Within (subℕ 0 most) (pos most) z → natAbs z ≤ most
+within-near most z w = both-near most z (w .low) (w .high)
 
 -- every level of means
 pub levels-within : (S : Steps) → Grounded S → ((k x : ℕ) → x < S .size (suc k) → IsMean (S .mask k x)) → (lo hi : ℤ) (control : ℕ → ℤ)

@@ -1,11 +1,11 @@
 -- Means over whole numbers, worked out over natural numbers: each coordinate z is written c - b, and the rounded mean of the z is the rounded mean of the c, less b.
 -- So a mean stays between the smallest and the largest of what it is taken of; and Loop's masks are means.
 -- Assumes nothing.
-use mathlib.Core.Path.{_≡_, refl, ap, ap₂, _∙_, subst}
+use mathlib.Core.Path.{_≡_, refl, sym, ap, ap₂, _∙_, subst}
 use mathlib.Core.List.{List, [], _∷_, map}
 use mathlib.Core.Logic.{⊎-elim}
 use Prim.Native.Nat.{ℕ, _+_, _*_, _%_, _≤_, _<_}
-use native.Mathlib.Nat.{mul-zero, mul-le-mul-left, mul-add, mul-comm}
+use native.Mathlib.Nat.{mul-zero, mul-suc, mul-le-mul-left, mul-add, mul-comm}
 use native.Mathlib.Omega.{arith}
 use lib.Dec.{lit<}
 use lib.IntN.{pos, subℕ, natAbs, _+ℤ_, _*ℤ_}
@@ -74,15 +74,17 @@ module _ (c : ℕ → ℕ) where
         let r : (lo * d ≤ n) × (n ≤ hi * d) = subst (λ x. (lo * x ≤ n) × (n ≤ hi * x)) mean (natural-between lo hi (μ .terms) h) in
         (roundNat-ge lo n d positive (r .0), roundNat-le hi n d positive (r .1))
 
+-- ---- one weight for each of a ring
+
+pub total-ring : (w : ℕ) (l : List ℕ) → total (map (term w) l) ≡ w * length l
+total-ring w [] = sym (mul-zero w)
+total-ring w (a ∷ l) = omega (arith, total-ring w l, mul-suc w (length l))
+
+pub nonneg-ring : (w : ℕ) (l : List ℕ) → NonNegative (map (term w) l)
+nonneg-ring w [] = tt
+nonneg-ring w (a ∷ l) = (refl, nonneg-ring w l)
+
 -- ---- Loop's masks
-
-total-ring : (l : List ℕ) → total (map (term 3) l) ≡ 3 * length l
-total-ring [] = refl
-total-ring (a ∷ l) = omega (arith, total-ring l)
-
-nonneg-ring : (l : List ℕ) → NonNegative (map (term 3) l)
-nonneg-ring [] = tt
-nonneg-ring (a ∷ l) = (refl, nonneg-ring l)
 
 pub record IsMean (μ : Mask) : Type 0 where
   pub positive : 0 < μ .divisor
@@ -94,8 +96,8 @@ vertex-mean v ring h =
     let n : ℕ = length ring in
     record {
       positive = ⊎-elim (λ e. rw (e .0) (lit< tt)) (λ e. rw (e .0) (omega arith)) (eq-split n 3);
-      mean = ⊎-elim (λ e. rw (e .0) (omega (arith, total-ring ring, e .1))) (λ e. rw (e .0) (omega (arith, total-ring ring))) (eq-split n 3);
-      nonneg = (refl, nonneg-ring ring);
+      mean = ⊎-elim (λ e. rw (e .0) (omega (arith, total-ring 3 ring, e .1))) (λ e. rw (e .0) (omega (arith, total-ring 3 ring))) (eq-split n 3);
+      nonneg = (refl, nonneg-ring 3 ring);
     }
 
 pub loop-mean : (M : Mesh) → Sound M → (x : ℕ) → IsMean (loopMask M x)

@@ -7,8 +7,7 @@ use Rattle.mesh.specs.Mesh.{Mesh, Sound}
 use Rattle.mesh.specs.Refine.{level}
 use Rattle.mesh.specs.Mask.{refined}
 use Rattle.mesh.specs.Loop.{loop}
-use Rattle.mesh.proofs.Lifted.{near-both, both-near}
-use Rattle.mesh.proofs.Hull.{Within, levels-within}
+use Rattle.mesh.proofs.Hull.{Within, levels-within, near-within, within-near}
 use Rattle.mesh.proofs.Levels.{level-sound, loop-grounded}
 use Rattle.mesh.proofs.Means.{loop-mean}
 
@@ -21,5 +20,5 @@ module _ (M : Mesh) (S : Sound M) (control : ℕ → ℤ) where
   -- so a range around zero is kept
   pub range-is-kept : (most : ℕ) → ((v : ℕ) → v < M .count → natAbs (control v) ≤ most) → (k x : ℕ) → x < level M k .count → natAbs (refined (loop M) control k x) ≤ most
   range-is-kept most near k x h =
-      let w = points-stay-in-hull (subℕ 0 most) (pos most) (λ v g. let b = near-both most (control v) (near v g) in record { low = b .0; high = b .1 }) k x h in
-      both-near most (refined (loop M) control k x) (w .low) (w .high)
+      within-near most (refined (loop M) control k x)
+      (points-stay-in-hull (subℕ 0 most) (pos most) (λ v g. near-within most (control v) (near v g)) k x h)

@@ -89,15 +89,15 @@ module _ (M : Mesh) (S : Sound M) where
   mid-ne v u v′ u′ h m h′ m′ d c e = let i = mid-inj v u v′ u′ h m h′ m′ e in ⊎-elim (λ s. d (s .0) (s .1)) (λ s. c (s .0) (s .1)) (same-pair v u v′ u′ (i .0) (i .1))
 
   -- the four vertices of two triangles at an edge differ, and so do the five edges
-  record Apart₄ (p q a b : ℕ) : Type 0 where
-    p-q : p ≢ q
-    p-a : p ≢ a
-    p-b : p ≢ b
-    q-a : q ≢ a
-    q-b : q ≢ b
-    a-b : a ≢ b
+  pub record Apart₄ (p q a b : ℕ) : Type 0 where
+    pub p-q : p ≢ q
+    pub p-a : p ≢ a
+    pub p-b : p ≢ b
+    pub q-a : q ≢ a
+    pub q-b : q ≢ b
+    pub a-b : a ≢ b
 
-  apart₄ : (p q : ℕ) → p < M .count → q ∈ M .ring p → Apart₄ p q (next (M .ring p) q) (next (M .ring q) p)
+  pub apart₄ : (p q : ℕ) → p < M .count → q ∈ M .ring p → Apart₄ p q (next (M .ring p) q) (next (M .ring q) p)
   apart₄ p q h m =
       let fa = face-at p q h m in
       let fb = face-at q p (fa .u-lt) (S .mutual′ p q h m) in

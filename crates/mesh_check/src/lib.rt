@@ -1,12 +1,12 @@
 // The check: reasons 2, 1, 4, 5, 6 and 7, each over all vertices before the next.
 ghost use mathlib.Core.Path.{_≡_};
 ghost use mathlib.Core.Bool.{false};
-ghost use Prim.Native.Nat.{_*_, _≤_};
+ghost use Prim.Native.Nat.{_*_, _/_, _≤_};
 ghost use lib.ListN.{length, getD};
 ghost use Rattle.mesh.specs.Limits.{mostCount};
 ghost use Rattle.mesh.specs.Search.{sum};
 ghost use Rattle.rings.specs.Verdict.{refuseAt};
-ghost use Rattle.rings.specs.Check.{badCount, shortTables, beyondAt, checkVerdict, checkAnswer};
+ghost use Rattle.rings.specs.Check.{badCount, shortTables, beyondAt, checkVerdict, countsOf, checkAnswer};
 ghost use Rattle.rings.specs.declared.Refusal.the-variants.{TooFar};
 ghost use Rattle.rings.specs.declared.Verdict.the-variants.{Accepted};
 use positions::first_beyond;
@@ -28,7 +28,7 @@ pub const LEAST_UNITS: i32 = -1048576;
 pub const MOST_UNITS: i32 = 1048576;
 
 // The sum of the valences.
-pub fn valence_sum(valences: &[u16], count: usize) -> usize
+fn valence_sum(valences: &[u16], count: usize) -> usize
     requires { ⌜ count ≤ length (now valences) ⌝ }
     requires { ⌜ count ≤ mostCount ⌝ }
     ensures { λ r. ⌜ r ≡ sum (λ v. getD (now (valences .entry)) v 0) count ⌝ }
@@ -41,6 +41,30 @@ pub fn valence_sum(valences: &[u16], count: usize) -> usize
         v += 1;
     }
     sum
+}
+
+// E: half the sum of the valences.
+pub fn edge_count(valences: &[u16], count: usize) -> usize
+    requires { ⌜ count ≤ length (now valences) ⌝ }
+    requires { ⌜ count ≤ mostCount ⌝ }
+    ensures { λ r. ⌜ r ≡ sum (λ v. getD (now (valences .entry)) v 0) count / 2 ⌝ }
+    ensures { λ r. ⌜ r ≤ 33554432 ⌝ }
+{
+    valence_sum(valences, count) / 2
+}
+
+// V, E and F of rings that are sound.
+pub fn counts(valences: &[u16], count: usize) -> Counted
+    requires { ⌜ count ≤ length (now valences) ⌝ }
+    requires { ⌜ count ≤ mostCount ⌝ }
+    ensures { λ r. ⌜ r ≡ countsOf count (sum (λ v. getD (now (valences .entry)) v 0) count) ⌝ }
+{
+    let e = edge_count(valences, count);
+    Counted::Counts {
+        v: count,
+        e: e,
+        f: 2 * e / 3,
+    }
 }
 
 // Reason 7, and what is judged after it: nothing.
@@ -99,13 +123,6 @@ pub fn check(valences: &[u16], rings: &[u16], positions: &[i32], count: usize) -
 {
     match judge(valences, rings, positions, count) {
         Verdict::Refused(r) => Counted::Refused(r),
-        Verdict::Accepted => {
-            let e = valence_sum(valences, count) / 2;
-            Counted::Counts {
-                v: count,
-                e: e,
-                f: 2 * e / 3,
-            }
-        }
+        Verdict::Accepted => counts(valences, count),
     }
 }

@@ -9,6 +9,7 @@ ghost use Rattle.moves.specs.Settle.{firstPlan, settleAnswer, settlePosi
 use super::control::write_control;
 use as_refined::stack::first_strange;
 use map::words_for;
+use mesh_check::edge_count;
 use plan::MOST_MOVES;
 use plan::Move;
 use plan::Plan;
@@ -18,7 +19,6 @@ use refresh::stack::refresh_levels;
 use rings::Amount;
 use rings::Refusal;
 use rings::Verdict;
-use stack_judge::edge_count;
 use stack_judge::is_bad_levels;
 use stack_judge::judge_stack;
 use stack_judge::stack_count;

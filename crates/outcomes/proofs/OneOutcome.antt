@@ -5,17 +5,19 @@ use mathlib.Core.Path.{_≡_, sym, ap, _∙_}
 use mathlib.Core.List.{List}
 use Prim.Native.Nat.{ℕ}
 use lib.IntN.{ℤ}
-use Rattle.rings.specs.Paper.{paperAmount, paperVerdict}
+use Rattle.rings.specs.Paper.{paperAmount, paperCounted, paperVerdict}
 use Rattle.rings.specs.declared.Verdict.{Verdict}
+use Rattle.rings.specs.declared.Counted.{Counted}
 use Rattle.rings.specs.declared.Amount.{Amount}
 use Rattle.ring_row.specs.Edit.{Edit}
+use Rattle.reshape_tables.specs.Calls.{Reshaping}
 use Rattle.plan.specs.declared.Move.{Move}
 use Rattle.rings.specs.Refusal.{Paper}
 use Rattle.crossing.specs.Crossing.{countsPaper, valuePaper}
 use Rattle.crossing.specs.declared.CountsAnswer.{CountsAnswer}
 use Rattle.crossing.specs.declared.ValueAnswer.{ValueAnswer}
 use Rattle.crossing.proofs.OneAnswer.{one-value, one-counts}
-use Rattle.outcomes.specs.Outcomes.{Answers, Edited, Applied, ReadIn, WrittenOut, Listed, Exported}
+use Rattle.outcomes.specs.Outcomes.{Answers, Edited, Reshaped, Split, Applied, ReadIn, WrittenOut, Listed, Exported}
 
 -- two things that are one promised thing are the same
 pub one-answer : {A : Type 0} {promised a b : A} → Answers promised a → Answers promised b → a ≡ b
@@ -24,6 +26,18 @@ one-answer x y = x ∙ sym y
 module _ {e : Edit} {vs rs vs′ rs′ vs″ rs″ : List ℕ} {v : ℕ} {a b : Verdict} where
   pub one-edit : Edited e vs rs v a vs′ rs′ → Edited e vs rs v b vs″ rs″ → (a ≡ b) × (paperVerdict a ≡ paperVerdict b) × (vs′ ≡ vs″) × (rs′ ≡ rs″)
   one-edit x y = let q = one-answer (x .answers) (y .answers) in (q, ap paperVerdict q, one-answer (x .valences) (y .valences), one-answer (x .rings) (y .rings))
+
+module _ {e : Reshaping} {vs rs vs′ rs′ vs″ rs″ : List ℕ} {a b : Counted} where
+  pub one-reshaping : Reshaped e vs rs a vs′ rs′ → Reshaped e vs rs b vs″ rs″ → (a ≡ b) × (paperCounted a ≡ paperCounted b) × (vs′ ≡ vs″) × (rs′ ≡ rs″)
+  one-reshaping x y =
+      let q = one-answer (x .answers) (y .answers) in
+      (q, ap paperCounted q, one-answer (x .valences) (y .valences), one-answer (x .rings) (y .rings))
+
+  pub one-split : {n : ℕ} {ps ps′ ps″ : List ℤ} → Split e n vs rs ps a vs′ rs′ ps′ → Split e n vs rs ps b vs″ rs″ ps″
+      → (a ≡ b) × (paperCounted a ≡ paperCounted b) × (vs′ ≡ vs″) × (rs′ ≡ rs″) × (ps′ ≡ ps″)
+  one-split x y =
+      let r = one-reshaping (x .reshaped) (y .reshaped) in
+      (r .0, r .1, r .2, r .3, one-answer (x .positions) (y .positions))
 
 module _ {n levels : ℕ} {vs rs map map′ map″ : List ℕ} {ps ps′ ps″ : List ℤ} {ms : List Move} {a b : Amount} where
   pub one-list : Applied n levels vs rs ps map ms a ps′ map′ → Applied n levels vs rs ps map ms b ps″ map″ → (a ≡ b) × (paperAmount a ≡ paperAmount b) × (ps′ ≡ ps″) × (map′ ≡ map″)
@@ -43,7 +57,7 @@ module _ {input text text′ text″ : List ℕ} {a b : ℕ} where
   pub one-listing : Listed input text a text′ → Listed input text b text″ → (a ≡ b) × (text′ ≡ text″)
   one-listing x y = (one-answer (x .answers) (y .answers), one-answer (x .bytes) (y .bytes))
 
--- ---- the C interface: twelve calls answer a value, gt_check and gt_refine the counts; those that write no table have the empty one
+-- ---- the C interface: twelve calls answer a value, gt_check, gt_refine and the edits of the mesh the counts; those that write no table have the empty one
 
 module _ {T : Type 0} {promised : Paper} {tables tables′ tables″ : T} where
   pub one-exported-value : {a b : ValueAnswer} → Exported valuePaper promised tables a tables′

@@ -7,10 +7,12 @@ use Prim.Native.Nat.{ℕ}
 use lib.IntN.{ℤ}
 use lib.ListN.{length}
 use Rattle.rings.specs.declared.Verdict.{Verdict}
+use Rattle.rings.specs.declared.Counted.{Counted}
 use Rattle.rings.specs.declared.Amount.{Amount}
 use Rattle.rings.specs.Table.{put}
 use Rattle.rings.specs.Refusal.{Paper}
 use Rattle.ring_row.specs.Edit.{Edit, valencesAfter, ringsAfter}
+use Rattle.reshape_tables.specs.Calls.{Reshaping, reshapeAnswer, reshapedValences, reshapedRings, reshapedPositions}
 use Rattle.moves.specs.Apply.{applyAnswer, applyPositions, applyMap}
 use Rattle.plan.specs.declared.Move.{Move}
 use Rattle.file_reading.specs.Read.{readAnswer, readValences, readRings, readPositions}
@@ -26,6 +28,17 @@ pub record Edited (e : Edit) (vs rs : List ℕ) (v : ℕ) (answer : Verdict) (vs
   pub answers : answer ≡ e .verdict
   pub valences : vs′ ≡ valencesAfter e vs v
   pub rings : rs′ ≡ ringsAfter e rs v
+
+-- an edit of the control mesh: an edge split, a face split, an edge flipped
+pub record Reshaped (e : Reshaping) (vs rs : List ℕ) (answer : Counted) (vs′ rs′ : List ℕ) : Type 0 where
+  pub answers : answer ≡ reshapeAnswer e
+  pub valences : vs′ ≡ reshapedValences e vs
+  pub rings : rs′ ≡ reshapedRings e rs
+
+-- of a split, also the positions
+pub record Split (e : Reshaping) (n : ℕ) (vs rs : List ℕ) (ps : List ℤ) (answer : Counted) (vs′ rs′ : List ℕ) (ps′ : List ℤ) : Type 0 where
+  pub reshaped : Reshaped e vs rs answer vs′ rs′
+  pub positions : ps′ ≡ reshapedPositions e n ps
 
 -- a list of moves
 pub record Applied (n levels : ℕ) (vs rs : List ℕ) (ps : List ℤ) (map : List ℕ) (ms : List Move) (answer : Amount) (ps′ : List ℤ) (map′ : List ℕ) : Type 0 where

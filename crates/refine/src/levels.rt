@@ -6,9 +6,9 @@ ghost use Rattle.rings.specs.Table.{rows};
 ghost use Rattle.rings.specs.declared.Counted.the-variants.{Counts};
 ghost use Rattle.stack_judge.specs.Accepts.{AcceptsStack};
 ghost use Rattle.refine.specs.Refinement.{stackedValences, stackedRings, stackedPositions};
+use mesh_check::edge_count;
 use rings::Counted;
 use rings::MOST_VALENCE;
-use stack_judge::edge_count;
 use sweep::write::write_level;
 
 // Writes levels 1 to L right behind level 0; answers V, E and F of level L.

@@ -13,10 +13,11 @@ use Rattle.rings.proofs.Rows.{row-length}
 use Rattle.ring_judge.specs.Judging.{tableVerdict, callVerdict}
 use Rattle.ring_judge.proofs.Judged.{tabled, called}
 use Rattle.ring_row.specs.Places.{Editable}
+use Rattle.ring_row.proofs.OneRow.{room-editable}
 
 module _ (n : ℕ) (vs rs : List ℕ) (v : ℕ) where
   pub tabled-editable : Accepted ≡ tableVerdict n vs rs v → Editable vs rs v
-  tabled-editable h = let t = tabled n vs rs v h in let r = t .room in let l = t .below in record { valence = omega arith; row = omega arith }
+  tabled-editable h = let t = tabled n vs rs v h in room-editable (t .room) (t .below)
 
   -- x stands at place i of a ring that can be written
   pub found : Accepted ≡ callVerdict n vs rs v → (x i : ℕ) → At i ≡ placeOf x (ringOf vs rs v) → Editable vs rs v × ((i < getD vs v 0) × (getD vs v 0 ≤ 32))

@@ -1,14 +1,16 @@
 -- What the queries answer, by the verdict of the call and by what the search of v's ring found. Assumes nothing.
-use Prim.Native.Nat.{ℕ, _≤_, _<_}
-use mathlib.Core.Path.{_≡_, ap}
+use Prim.Native.Nat.{ℕ}
+use mathlib.Core.Path.{_≡_}
 use mathlib.Core.Bool.{Bool, true, false}
 use mathlib.Core.List.{List}
-use lib.ListN.{length, getD}
-use Rattle.mesh.specs.Ring.{has, place, placeAfter, placeBefore}
-use Rattle.mesh.proofs.Places.{has-yes, has-no, next-is, prev-is}
+use lib.ListN.{getD}
+use Rattle.mesh.specs.Ring.{has}
 use Rattle.rings.specs.Table.{ringOf}
 use Rattle.rings.specs.Verdict.{withAmount}
 use Rattle.ring_judge.specs.Judging.{callVerdict}
+use Rattle.ring_beside.specs.Beside.{afterIn, beforeIn}
+use Rattle.ring_beside.specs.declared.Beside.the-variants.{At, Absent}
+use Rattle.ring_beside.proofs.BesideFound.{after-found, after-not-found, before-found, before-not-found}
 use Rattle.ring_query.specs.Queries.{withAnswer, withNeighbour, valenceAnswer, containsAnswer, nextAnswer, prevAnswer}
 use Rattle.rings.specs.declared.Refusal.{Refusal}
 use Rattle.rings.specs.declared.Verdict.the-variants.{Accepted, Refused}
@@ -47,19 +49,18 @@ module _ (n : ℕ) (vs rs : List ℕ) (v : ℕ) where
       unfolding containsAnswer withAnswer
       contains-no b q h = rw (← e, ← p, ← q, h)
 
-      module _ (i : ℕ) (q : i ≡ place x l) where
-        pub next-told : (j : ℕ) → i < length l → j ≡ placeAfter (length l) i → neighbour.Vertex (getD l j 0) ≡ nextAnswer n vs rs v x
-        unfolding nextAnswer withNeighbour
-        next-told j h k = rw (← e, ← p, has-yes x l i q h) (ap neighbour.Vertex (next-is x l i q j k))
+      pub next-told : {y j : ℕ} → At y j ≡ afterIn l x → neighbour.Vertex y ≡ nextAnswer n vs rs v x
+      unfolding nextAnswer withNeighbour
+      next-told a = let f = after-found l x a in rw (← e, ← p, f .0, f .1)
 
-        pub next-missing : length l ≤ i → neighbour.Missing ≡ nextAnswer n vs rs v x
-        unfolding nextAnswer withNeighbour
-        next-missing h = rw (← e, ← p, has-no x l i q h)
+      pub next-missing : Absent ≡ afterIn l x → neighbour.Missing ≡ nextAnswer n vs rs v x
+      unfolding nextAnswer withNeighbour
+      next-missing a = rw (← e, ← p, after-not-found l x a)
 
-        pub prev-told : (j : ℕ) → i < length l → j ≡ placeBefore (length l) i → neighbour.Vertex (getD l j 0) ≡ prevAnswer n vs rs v x
-        unfolding prevAnswer withNeighbour
-        prev-told j h k = rw (← e, ← p, has-yes x l i q h) (ap neighbour.Vertex (prev-is x l i q j k))
+      pub prev-told : {y j : ℕ} → At y j ≡ beforeIn l x → neighbour.Vertex y ≡ prevAnswer n vs rs v x
+      unfolding prevAnswer withNeighbour
+      prev-told a = let f = before-found l x a in rw (← e, ← p, f .0, f .1)
 
-        pub prev-missing : length l ≤ i → neighbour.Missing ≡ prevAnswer n vs rs v x
-        unfolding prevAnswer withNeighbour
-        prev-missing h = rw (← e, ← p, has-no x l i q h)
+      pub prev-missing : Absent ≡ beforeIn l x → neighbour.Missing ≡ prevAnswer n vs rs v x
+      unfolding prevAnswer withNeighbour
+      prev-missing a = rw (← e, ← p, before-not-found l x a)

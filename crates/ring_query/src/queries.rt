@@ -3,13 +3,13 @@ ghost use mathlib.Core.Path.{_≡_};
 ghost use Rattle.ring_query.specs.Queries.{valenceAnswer, containsAnswer, nextAnswer, prevAnswer};
 use super::Answer;
 use super::Neighbour;
+use ring_beside::Beside;
+use ring_beside::after_in;
+use ring_beside::before_in;
 use ring_judge::judge::judge_call;
 use rings::Amount;
 use rings::Verdict;
 use rings::ring::is_there;
-use rings::ring::place_after;
-use rings::ring::place_before;
-use rings::ring::seek;
 use rings::table::ring_of;
 
 // The valence of v.
@@ -44,13 +44,10 @@ pub fn next(valences: &[u16], rings: &[u16], count: usize, v: usize, x: usize) -
     match judge_call(valences, rings, count, v) {
         Verdict::Refused(r) => Neighbour::Refused(r),
         Verdict::Accepted => {
-            let ring = ring_of(valences, rings, v);
-            let i = seek(ring, x);
-            if i < ring.len() {
-                let j = place_after(ring.len(), i);
-                return Neighbour::Vertex(ring[j]);
+            match after_in(ring_of(valences, rings, v), x) {
+                Beside::At { vertex, place: _ } => Neighbour::Vertex(vertex),
+                Beside::Absent => Neighbour::Missing,
             }
-            Neighbour::Missing
         }
     }
 }
@@ -62,13 +59,10 @@ pub fn prev(valences: &[u16], rings: &[u16], count: usize, v: usize, x: usize) -
     match judge_call(valences, rings, count, v) {
         Verdict::Refused(r) => Neighbour::Refused(r),
         Verdict::Accepted => {
-            let ring = ring_of(valences, rings, v);
-            let i = seek(ring, x);
-            if i < ring.len() {
-                let j = place_before(ring.len(), i);
-                return Neighbour::Vertex(ring[j]);
+            match before_in(ring_of(valences, rings, v), x) {
+                Beside::At { vertex, place: _ } => Neighbour::Vertex(vertex),
+                Beside::Absent => Neighbour::Missing,
             }
-            Neighbour::Missing
         }
     }
 }

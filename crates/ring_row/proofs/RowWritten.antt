@@ -10,7 +10,7 @@ use lib.Seq.{getD-take, ext-getD, length-take-le}
 use Rattle.mesh.specs.Edits.{closed, opened}
 use Rattle.rings.specs.Table.{put, padded}
 use Rattle.rings.proofs.Rewrite.{Written}
-use Rattle.mesh.proofs.EditPlaces.{opened-before, opened-after, opened-closed, closed-length}
+use Rattle.mesh.proofs.EditPlaces.{opened-after, opened-closed, closed-length, closed-before}
 
 -- ---- a ring with a place taken out or put in, as the loops move its entries
 
@@ -19,7 +19,7 @@ module _ (l : List ℕ) (i : ℕ) (here : i < length l) where
   closed-here = let k = closed-length l i here in omega arith
 
   pub closed-below : (j : ℕ) → j < i → getD l j 0 ≡ getD (closed l i) j 0
-  closed-below j h = ap (λ (r : List ℕ). getD r j 0) (sym (opened-closed l i here)) ∙ opened-before (closed l i) i (getD l i 0) j 0 h closed-here
+  closed-below j h = sym (closed-before l i j here h)
 
   pub closed-moved : (j : ℕ) → i ≤ j → getD l (j + 1) 0 ≡ getD (closed l i) j 0
   closed-moved j h =

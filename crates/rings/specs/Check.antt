@@ -1,8 +1,8 @@
--- The check (sections "Ring rules" and "What comes back when we say no"): reasons 2, 1, 4, 5, 6 and 7 in this order, each asked of all vertices before the next.
+-- The check (sections "Ring rules" and "What comes back when we say no"): reasons 2, 1, 4, 5, 6, 7 in this order, each asked of all vertices before the next.
 -- Assumes nothing.
 use mathlib.Core.Bool.{Bool, _||_}
 use mathlib.Core.List.{List}
-use Prim.Native.Nat.{ℕ, _*_}
+use Prim.Native.Nat.{ℕ, _*_, _/_}
 use lib.Dec.{ltb}
 use lib.IntN.{ℤ}
 use lib.ListN.{length, getD}
@@ -16,6 +16,7 @@ use Rattle.rings.specs.declared.Refusal.the-variants.{ControlTooShort, B
 use Rattle.rings.specs.declared.Verdict.{Verdict}
 use Rattle.rings.specs.declared.Verdict.the-variants.{Accepted}
 use Rattle.rings.specs.declared.Counted.{Counted}
+use Rattle.rings.specs.declared.Counted.the-variants.{Counts}
 
 -- 2: the number of vertices is under 4 or over 1,024
 unfoldable pub badCount : ℕ → Bool
@@ -51,6 +52,10 @@ checkVerdict n vs rs ps =
     (refuseAt (openFaced (rows n vs rs)) n OpenFace
     (refuseAt (beyondAt ps) n TooFar
     Accepted)))))
+
+-- V, E and F of n vertices in a sound mesh, where s adds their valences
+unfoldable pub countsOf : ℕ → ℕ → Counted
+countsOf n s = Counts n (s / 2) (2 * (s / 2) / 3)
 
 -- what the check answers: V, E and F, or the refusal. It writes nothing
 unfoldable pub checkAnswer : ℕ → List ℕ → List ℕ → List ℤ → Counted

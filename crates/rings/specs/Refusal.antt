@@ -2,7 +2,8 @@
 -- Assumes nothing.
 use Prim.Native.Nat.{ℕ}
 use Rattle.rings.specs.declared.Refusal.{Refusal}
-use Rattle.rings.specs.declared.Refusal.the-variants.{ControlTooShort, BadCount, NoVertex, ImproperRing, OneSided, OpenFace, TooFar, BadLevels, LevelTooLarge, NoRoom, NotAsRefined, TooManyMoves, NotFinite, Outside, AlreadyThere, RingFull, BadFile}
+use Rattle.rings.specs.declared.Refusal.the-variants.{ControlTooShort, BadCount, NoVertex, ImproperRing, OneSided, OpenFace, TooFar, BadLevels, LevelTooLarge}
+use Rattle.rings.specs.declared.Refusal.the-variants.{NoRoom, NotAsRefined, TooManyMoves, NotFinite, Outside, AlreadyThere, RingFull, BadFile, NoEdgeOrFace, CannotFlip}
 
 -- number, place, and what the call gives: V, E and F, or one number in the first of the three
 pub record Paper : Type 0 where
@@ -20,7 +21,7 @@ accepted a b c = record { number = 0; place = 0; first = a; second = b; third = 
 abbrev pub refused : ℕ → ℕ → ℕ → Paper
 refused number place d = record { number = number; place = place; first = d; second = 0; third = 0 }
 
--- the number of each reason, as document 01's table has it
+-- the number of each reason: 1 to 17 as document 01's table has them, 18 and 19 as document 02's order 1
 abbrev pub numberOf : Refusal → ℕ
 numberOf ControlTooShort = 1
 numberOf BadCount = 2
@@ -39,6 +40,8 @@ numberOf (Outside i) = 14
 numberOf AlreadyThere = 15
 numberOf RingFull = 16
 numberOf (BadFile at) = 17
+numberOf NoEdgeOrFace = 18
+numberOf CannotFlip = 19
 
 -- the place of each: what its case carries, or 0
 abbrev pub placeOf : Refusal → ℕ
@@ -59,6 +62,8 @@ placeOf (Outside i) = i
 placeOf AlreadyThere = 0
 placeOf RingFull = 0
 placeOf (BadFile at) = at
+placeOf NoEdgeOrFace = 0
+placeOf CannotFlip = 0
 
 -- what a refused call gives on paper
 abbrev pub reason : Refusal → ℕ → Paper

@@ -1,5 +1,4 @@
 // Ring tables: the lent tables and their rows, one ring, and the answers that every call gives.
-pub mod reasons;
 pub mod ring;
 pub mod table;
 
@@ -33,6 +32,8 @@ pub enum Refusal {
     AlreadyThere,
     RingFull,
     BadFile(usize),
+    NoEdgeOrFace,
+    CannotFlip,
 }
 
 // What a ring edit answers.

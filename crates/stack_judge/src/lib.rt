@@ -1,13 +1,12 @@
 // A stack's sizes, worked out from V and E alone, and its judgement: reason 8, the check, reasons 9 and 10.
 ghost use mathlib.Core.Path.{_≡_};
-ghost use Prim.Native.Nat.{suc, _/_, _≤_};
-ghost use lib.ListN.{length, getD};
+ghost use Prim.Native.Nat.{suc, _≤_};
 ghost use Rattle.mesh.specs.Limits.{mostCount, mostLevels};
-ghost use Rattle.mesh.specs.Search.{sum, first};
+ghost use Rattle.mesh.specs.Search.{first};
 ghost use Rattle.stack_judge.specs.Stack.{stackCount, badLevels, tooLarge, shortStack};
 ghost use Rattle.stack_judge.specs.StackVerdict.{stackVerdict};
+use mesh_check::edge_count;
 use mesh_check::judge;
-use mesh_check::valence_sum;
 use rings::MOST_VALENCE;
 use rings::Refusal;
 use rings::Verdict;
@@ -27,16 +26,6 @@ pub fn is_bad_levels(levels: usize) -> bool
         return true;
     }
     MOST_LEVELS < levels
-}
-
-// E: half the sum of the valences.
-pub fn edge_count(valences: &[u16], count: usize) -> usize
-    requires { ⌜ count ≤ length (now valences) ⌝ }
-    requires { ⌜ count ≤ mostCount ⌝ }
-    ensures { λ r. ⌜ r ≡ sum (λ v. getD (now (valences .entry)) v 0) count / 2 ⌝ }
-    ensures { λ r. ⌜ r ≤ 33554432 ⌝ }
-{
-    valence_sum(valences, count) / 2
 }
 
 // Reason 9: the first of levels 0 to L that has more than 65,535 vertices, or L + 1.

@@ -1,11 +1,12 @@
 -- Loop's two masks give document 01's two formulas. Assumes nothing.
-use mathlib.Core.Path.{_≡_, refl, sym, ap, _∙_}
+use mathlib.Core.Path.{_≡_, sym, ap, ap₂, _∙_}
 use mathlib.Core.Bool.{Bool, true, false, cond}
 use mathlib.Core.List.{List, [], _∷_, map}
 use Prim.Native.Nat.{ℕ, suc, _+_, _*_}
+use native.Mathlib.Nat.{mul-add}
 use native.Mathlib.Omega.{arith}
 use lib.Dec.{eqb}
-use lib.IntN.{ℤ, pos, negsuc, _+ℤ_, _*ℤ_}
+use lib.IntN.{ℤ, pos, negsuc, _+ℤ_, _*ℤ_, *ℤ-zero}
 use lib.ListN.{length}
 use Rattle.mesh.specs.Round.{Is, rounded}
 use Rattle.mesh.specs.Mask.{weighted, byMask}
@@ -35,15 +36,18 @@ edge-sum p q a b =
     same (plus (times 3 (p′ .is)) (plus (times 3 (q′ .is)) (plus (times 1 (a′ .is)) (plus (times 1 (b′ .is)) (self-pos 0)))))
     (plus (plus (times 3 (plus (p′ .is) (q′ .is))) (a′ .is)) (b′ .is)) (omega arith)
 
-three : (x y : ℤ) → pos 3 *ℤ x +ℤ pos 3 *ℤ y ≡ pos 3 *ℤ (x +ℤ y)
-three x y =
+shared : (k : ℕ) (x y : ℤ) → pos k *ℤ x +ℤ pos k *ℤ y ≡ pos k *ℤ (x +ℤ y)
+shared k x y =
     let x′ = whole x in
     let y′ = whole y in
-    same (plus (times 3 (x′ .is)) (times 3 (y′ .is))) (times 3 (plus (x′ .is) (y′ .is))) (omega arith)
+    let up : k * (x′ .up + y′ .up) ≡ k * x′ .up + k * y′ .up = mul-add k (x′ .up) (y′ .up) in
+    let down : k * (x′ .down + y′ .down) ≡ k * x′ .down + k * y′ .down = mul-add k (x′ .down) (y′ .down) in
+    same (plus (times k (x′ .is)) (times k (y′ .is))) (times k (plus (x′ .is) (y′ .is))) (ap₂ _+_ (sym up) down)
 
-ring-sum : (at : ℕ → ℤ) (ring : List ℕ) → weighted (map (term 3) ring) at ≡ pos 3 *ℤ ringSum at ring
-ring-sum at [] = refl
-ring-sum at (u ∷ ring) = ap (λ (z : ℤ). pos 3 *ℤ at u +ℤ z) (ring-sum at ring) ∙ three (at u) (ringSum at ring)
+-- where each vertex of a ring has the same weight, it can be taken out
+pub ring-sum : (k : ℕ) (at : ℕ → ℤ) (ring : List ℕ) → weighted (map (term k) ring) at ≡ pos k *ℤ ringSum at ring
+ring-sum k at [] = sym (*ℤ-zero (pos k))
+ring-sum k at (u ∷ ring) = ap (λ (z : ℤ). pos k *ℤ at u +ℤ z) (ring-sum k at ring) ∙ shared k (at u) (ringSum at ring)
 
 -- (3(p + q) + a + b) / 8
 pub edge-mask : (p q a b : ℕ) (at : ℕ → ℤ) → byMask (edgeMask p q a b) at ≡ edgePoint (at p) (at q) (at a) (at b)
@@ -60,5 +64,5 @@ vertex-mask v ring at = go (eqb n 3)
 
     go : (b : Bool) → rounded (pos (cond b 7 (5 * n)) *ℤ at v +ℤ weighted (map (term 3) ring) at) (cond b 16 (8 * n))
         ≡ cond b (rounded (pos 7 *ℤ at v +ℤ pos 3 *ℤ ringSum at ring) 16) (rounded (pos (5 * n) *ℤ at v +ℤ pos 3 *ℤ ringSum at ring) (8 * n))
-    go true = ap (λ (z : ℤ). rounded (pos 7 *ℤ at v +ℤ z) 16) (ring-sum at ring)
-    go false = ap (λ (z : ℤ). rounded (pos (5 * n) *ℤ at v +ℤ z) (8 * n)) (ring-sum at ring)
+    go true = ap (λ (z : ℤ). rounded (pos 7 *ℤ at v +ℤ z) 16) (ring-sum 3 at ring)
+    go false = ap (λ (z : ℤ). rounded (pos (5 * n) *ℤ at v +ℤ z) (8 * n)) (ring-sum 3 at ring)

@@ -1,8 +1,7 @@
 -- `check` meets its contract. Assumes nothing.
-use mathlib.Core.Path.{_≡_, sym, _∙_}
+use mathlib.Core.Path.{sym, _∙_}
 use borrow.Author.Needs.{needs}
-use Rattle.rings.proofs.Rows.{fit-valences}
-use Rattle.rings.proofs.Accepted.{accepted-only, accepted-fit, check-counts, check-refused}
+use Rattle.rings.proofs.Accepted.{accepted-only, check-counts, check-refused}
 use Rattle.mesh_check.proofs.check.Statement.{statement}
 use Rattle.mesh_check.proofs.check.Tie as tie
 
@@ -15,21 +14,14 @@ enum-known-r c = search needs
 enum-told : tie.Need-enum-told
 enum-told c = search needs
 
-valence-sum-requires : tie.Need-valence-sum-requires
-valence-sum-requires c κs = let a = accepted-only _ _ _ _ (sym (c .before .before .judge .ensures) ∙ c .enum-told .given .1) in (a .room .valences, a .high)
-
-mul-t9 : tie.Need-mul-t9
-mul-t9 c = search needs
+counts-requires : tie.Need-counts-requires
+counts-requires c κs = let a = accepted-only _ _ _ _ (sym (c .before .before .judge .ensures) ∙ c .enum-told .given .1) in (a .room .valences, a .high)
 
 returns : tie.Need-returns
 returns c = check-refused _ _ _ _ _ (sym (c .before .r .given .1) ∙ c .before .before .before .judge .ensures)
 
 returns-2 : tie.Need-returns-2
-returns-2 c =
-    let e : _ ≡ _ = sym (c .before .enum-told .given .1) ∙ c .before .before .before .judge .ensures in
-    check-counts _ _ _ _ e _ (c .valence-sum .ensures .0 ∙ fit-valences (accepted-fit _ _ _ _ (sym e)))
+returns-2 c = c .counts .ensures ∙ check-counts _ _ _ _ (sym (c .before .enum-told .given .1) ∙ c .before .before .before .judge .ensures)
 
 pub check-spec : {M : Type 1} → statement M
-check-spec =
-    tie.close
-    (tie.spec judge-requires enum-known-r enum-told valence-sum-requires mul-t9 returns returns-2)
+check-spec = tie.close (tie.spec judge-requires enum-known-r enum-told counts-requires returns returns-2)

@@ -18,36 +18,34 @@ enum-told c = search needs
 ring-of-requires : tie.Need-ring-of-requires
 ring-of-requires c κs = called _ _ _ _ (sym (c .enum-told .given .1) ∙ c .before .before .judge-call .ensures) .row
 
-seek-requires : tie.Need-seek-requires
-seek-requires c κs = search needs
+after-in-requires : tie.Need-after-in-requires
+after-in-requires c κs = search needs
 
-place-after-requires : tie.Need-place-after-requires
-place-after-requires c κs = search needs
+enum-known-vertex : tie.Need-enum-known-vertex
+enum-known-vertex c = search needs
 
-mul-t14 : tie.Need-mul-t14
-mul-t14 c = search needs
-
-shared-slice-read-t16 : tie.Need-shared-slice-read-t16
-shared-slice-read-t16 c = search needs
+enum-told-2 : tie.Need-enum-told-2
+enum-told-2 c = search needs
 
 returns : tie.Need-returns
-returns c =
-    let t = c .before .before in
-    let s = t .before in
-    let r = s .before in
-    let k = r .before in
-    next-told _ _ _ _ (sym (k .enum-told .given .1) ∙ k .before .before .judge-call .ensures) _ _ (r .ring-of .ensures .0) _ (s .seek .ensures) _ (t .if1 .taken)
-    (c .before .place-after .ensures .0)
+returns c = next-refused _ _ _ _ _ _ (sym (c .before .r .given .1) ∙ c .before .before .before .judge-call .ensures)
 
 returns-2 : tie.Need-returns-2
-returns-2 c = next-refused _ _ _ _ _ _ (sym (c .before .r .given .1) ∙ c .before .before .before .judge-call .ensures)
+returns-2 c =
+    let f = c .before in
+    let a = f .before .before in
+    let r = a .before in
+    let k = r .before in
+    next-told _ _ _ _ (sym (k .enum-told .given .1) ∙ k .before .before .judge-call .ensures) _ _ (r .ring-of .ensures .0)
+    (sym (f .vertex .given .1) ∙ a .after-in .ensures)
 
 returns-3 : tie.Need-returns-3
 returns-3 c =
-    let s = c .before in
-    let r = s .before in
+    let a = c .before .before in
+    let r = a .before in
     let k = r .before in
-    next-missing _ _ _ _ (sym (k .enum-told .given .1) ∙ k .before .before .judge-call .ensures) _ _ (r .ring-of .ensures .0) _ (s .seek .ensures) (c .if1 .left)
+    next-missing _ _ _ _ (sym (k .enum-told .given .1) ∙ k .before .before .judge-call .ensures) _ _ (r .ring-of .ensures .0)
+    (sym (c .enum-told2 .given .1) ∙ a .after-in .ensures)
 
 pub next-spec : {M : Type 1} → statement M
 next-spec =
@@ -57,10 +55,9 @@ next-spec =
     enum-known-r
     enum-told
     ring-of-requires
-    seek-requires
-    place-after-requires
-    mul-t14
-    shared-slice-read-t16
+    after-in-requires
+    enum-known-vertex
+    enum-told-2
     returns
     returns-2
     returns-3)

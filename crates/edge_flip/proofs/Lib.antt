@@ -1,0 +1,2 @@
+-- Laws of the flip of an edge.
+pub mod FlipDone

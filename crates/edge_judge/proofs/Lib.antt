@@ -1,0 +1,2 @@
+-- Laws of the judging of an edge.
+pub mod EdgesJudged

@@ -1,0 +1,2 @@
+-- What the judging of an edge hands on.
+pub mod Judged

@@ -1,0 +1,2 @@
+-- Laws of the split of an edge.
+pub mod EdgeSplitDone

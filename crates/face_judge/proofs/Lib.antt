@@ -1,0 +1,2 @@
+-- Laws of the judging of a face.
+pub mod FacesJudged

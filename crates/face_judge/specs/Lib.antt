@@ -1,0 +1,2 @@
+-- What the judging of a face hands on.
+pub mod Judged

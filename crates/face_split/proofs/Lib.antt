@@ -1,0 +1,2 @@
+-- Laws of the split of a face.
+pub mod FaceSplitDone

@@ -1,0 +1,3 @@
+-- Laws on one entry of a row.
+pub mod EntryWritten
+pub mod ReadyRows

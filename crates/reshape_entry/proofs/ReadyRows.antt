@@ -1,0 +1,24 @@
+-- A row of fit tables is ready for an edit of one entry. Assumes nothing.
+use mathlib.Core.Path.{ap, _∙_, subst}
+use mathlib.Core.List.{List}
+use Prim.Native.Nat.{ℕ, _+_, _≤_, _<_}
+use native.Mathlib.Omega.{arith}
+use lib.ListN.{length}
+use Rattle.mesh.specs.Limits.{mostValence}
+use Rattle.mesh.specs.Ring.{_∈_}
+use Rattle.rings.specs.Table.{rows}
+use Rattle.rings.specs.Accepts.{Fit}
+use Rattle.rings.proofs.Rows.{rows-ring, fit-length}
+use Rattle.ring_row.proofs.OneRow.{room-editable}
+use Rattle.reshape_entry.specs.Ready.{Ready}
+
+-- by the ring that the mesh of the tables has
+pub fit-ready : {n : ℕ} {vs rs : List ℕ} → Fit n vs rs → (more v c : ℕ) → v < n → length (rows n vs rs .ring v) + more ≤ mostValence
+    → c ∈ rows n vs rs .ring v → Ready more vs rs v c
+fit-ready {n} {vs} {rs} f more v c h l m =
+    let e = ap length (rows-ring n vs rs v h) ∙ fit-length f h in
+    record {
+      row = room-editable (f .room) h;
+      room = omega (arith, l, e);
+      there = subst (λ (t : List ℕ). c ∈ t) (rows-ring n vs rs v h) m;
+    }

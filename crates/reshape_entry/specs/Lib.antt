@@ -1,0 +1,2 @@
+-- What the functions on one entry ask.
+pub mod Ready

@@ -1,0 +1,2 @@
+-- Laws on means.
+pub mod MeanPoints

@@ -1,0 +1,30 @@
+-- What a new vertex needs, as it is judged. Assumes nothing.
+use mathlib.Core.Path.{_≡_}
+use mathlib.Core.Bool.{Bool, true, false}
+use mathlib.Core.List.{List}
+use Prim.Native.Nat.{ℕ, _+_, _≤_, _<_}
+use native.Mathlib.Numerals.{add-one}
+use lib.IntN.{ℤ}
+use borrow.Author.Tests.{le-leb, lt-leb}
+use Rattle.mesh.specs.Limits.{mostCount}
+use Rattle.rings.specs.Table.{rows}
+use Rattle.rings.specs.Verdict.{refuseIf}
+use Rattle.rings.specs.Check.{shortTables}
+use Rattle.rings.specs.declared.Refusal.the-variants.{NoRoom, RingFull}
+use Rattle.rings.specs.declared.Verdict.the-variants.{Accepted, Refused}
+use Rattle.reshape.specs.Reshape.{noNumber}
+use Rattle.reshape_tables.specs.Calls.{newVerdict}
+
+module _ (n : ℕ) (vs rs : List ℕ) (ps : List ℤ) where
+  pub no-number : mostCount ≤ n → Refused RingFull ≡ newVerdict n vs rs ps
+  unfolding newVerdict noNumber rows refuseIf
+  no-number h = rw (le-leb mostCount n h)
+
+  module _ (h : n < mostCount) (b : Bool) (e : b ≡ shortTables (n + 1) vs rs ps) where
+    pub no-room : b ≡ true → Refused NoRoom ≡ newVerdict n vs rs ps
+    unfolding newVerdict noNumber rows refuseIf
+    no-room t = rw (lt-leb mostCount n h, ← add-one n, ← e, t)
+
+    pub room-for-one : b ≡ false → Accepted ≡ newVerdict n vs rs ps
+    unfolding newVerdict noNumber rows refuseIf
+    room-for-one t = rw (lt-leb mostCount n h, ← add-one n, ← e, t)

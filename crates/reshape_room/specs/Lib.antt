@@ -1,0 +1,2 @@
+-- Tables that passed the check.
+pub mod Checked

@@ -1,0 +1,3 @@
+-- Laws for the row writers.
+pub mod WrittenSofar
+pub mod JudgedReady

@@ -1,0 +1,2 @@
+-- What the row writers of the mesh edits ask.
+pub mod RowsReady

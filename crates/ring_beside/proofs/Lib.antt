@@ -1,0 +1,2 @@
+-- Laws on what stands beside an entry.
+pub mod BesideFound

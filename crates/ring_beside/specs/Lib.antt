@@ -1,0 +1,2 @@
+-- What stands beside an entry of a ring.
+pub mod Beside
