@@ -56,7 +56,8 @@ settled-changes ps w i NotFinite qs room e = absurd (let z : _≡_ {A = ℕ} 0 1
 settled-changes ps w i Outside qs room e = absurd (let z : _≡_ {A = ℕ} 0 1 = cc in omega arith)
 
 -- one move changes only its vertex
-pub step-changes : (n : ℕ) (ps : List ℤ) (m : Move) (i : ℕ) (qs : List ℤ) → n * 3 ≤ length ps → step n (pending ps) m i ≡ pending qs → ChangedAt (eqb (m .vertex)) ps qs
+pub step-changes : (n : ℕ) (ps : List ℤ) (m : Move) (i : ℕ) (qs : List ℤ) → n * 3 ≤ length ps → step n (pending ps) m i ≡ pending qs
+    → ChangedAt (eqb (m .vertex)) ps qs
 unfolding step
 step-changes n ps m i qs room e =
     ⊎-elim

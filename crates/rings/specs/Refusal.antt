@@ -2,8 +2,10 @@
 -- Assumes nothing.
 use Prim.Native.Nat.{ℕ}
 use Rattle.rings.specs.declared.Refusal.{Refusal}
-use Rattle.rings.specs.declared.Refusal.the-variants.{ControlTooShort, BadCount, NoVertex, ImproperRing, OneSided, OpenFace, TooFar, BadLevels, LevelTooLarge}
-use Rattle.rings.specs.declared.Refusal.the-variants.{NoRoom, NotAsRefined, TooManyMoves, NotFinite, Outside, AlreadyThere, RingFull, BadFile, NoEdgeOrFace, CannotFlip}
+use Rattle.rings.specs.declared.Refusal.the-variants.{ControlTooShort, BadCount, NoVertex, ImproperRing, OneSided}
+use Rattle.rings.specs.declared.Refusal.the-variants.{OpenFace, TooFar, BadLevels, LevelTooLarge, NoRoom}
+use Rattle.rings.specs.declared.Refusal.the-variants.{NotAsRefined, TooManyMoves, NotFinite, Outside, AlreadyThere}
+use Rattle.rings.specs.declared.Refusal.the-variants.{RingFull, BadFile, NoEdgeOrFace, CannotFlip}
 
 -- number, place, and what the call gives: V, E and F, or one number in the first of the three
 pub record Paper : Type 0 where
