@@ -1,14 +1,14 @@
 /* The floating-point environment. A C program begins in the default one, with rounding to nearest and exceptions
- * masked, and the library's calls leave it so: a shift from 1 mm by 2^-11 - 2^-60 leads to 1,025 units before and after
- * them. Beside that it prints what the shift leads to under rounding downward, which is why the header asks for the
- * default environment. */
+ * masked, and the library's calls leave it so: a shift from 1,025 units by 2^-11 - 2^-60 mm leads to 1,026 units before
+ * and after them, as the sum is rounded up to a half and that to the even unit. Beside that it prints what the shift
+ * leads to under rounding downward, which is why the header asks for the default environment. */
 #include <fenv.h>
 #include <stdio.h>
 #include <stdlib.h>
 #include <xmmintrin.h>
 #include "meshes.h"
 
-enum { ROWS = 64, START = GT_UNITS_A_MILLIMETRE, NEAREST = START + 1 };
+enum { ROWS = 64, START = GT_UNITS_A_MILLIMETRE + 1, NEAREST = START + 1 };
 
 /* The bits of the control register that say how numbers are rounded and which exceptions are masked. */
 enum { ROUNDING = 0x6000, MASKS = 0x1f80, FLAGS = 0x3f };
@@ -34,7 +34,7 @@ static int is_default(void) {
     return fegetround() == FE_TONEAREST && (_mm_getcsr() & (ROUNDING | MASKS)) == MASKS;
 }
 
-/* Where the shift leads vertex 0, which stands at 1 mm. */
+/* Where the shift leads vertex 0, which stands at 1,025 units. */
 static int32_t shifted(void) {
     const gt_move shift = {0, GT_SHIFT, 0x1p-11 - 0x1p-60, 0, 0};
     positions[0] = START;
@@ -67,11 +67,11 @@ int main(void) {
     memcpy(valences, control.valences, sizeof *valences * control.count);
     memcpy(rings, control.rings, sizeof *rings * GT_RING_PLACES * control.count);
     need(gt_refine(TABLES, control.count, 1).number == 0, "refinement is refused");
-    need(shifted() == NEAREST, "the shift does not lead to 1025 in the environment that the program begins with");
+    need(shifted() == NEAREST, "the shift does not lead to 1026 in the environment that the program begins with");
     call_all();
     need(is_default() && register_now() == begun, "a call changes the rounding or the masks");
-    need(shifted() == NEAREST, "the shift does not lead to 1025 after other calls");
-    puts("environment: rounding to nearest, exceptions masked, before and after all calls; the shift gives 1025");
+    need(shifted() == NEAREST, "the shift does not lead to 1026 after other calls");
+    puts("environment: rounding to nearest, exceptions masked, before and after all calls; the shift gives 1026");
     need(fesetround(FE_DOWNWARD) == 0, "no rounding downward to be had");
     unsigned downward = register_now();
     int32_t other = shifted();

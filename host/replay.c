@@ -15,8 +15,8 @@ static const char *const names[CALLS] = {"", "make", "erase", "replace", "insert
     "valence", "next", "prev", "check", "refine", "moves", "read", "write", "listing", "split_edge", "split_face", "flip"};
 
 /* Skipped are cases of calls that come later, up to this number, and cases with this flag, which hold only where halves
- * go to the even unit. */
-enum { LAST_CALL = 20, EVEN = 16 };
+ * go upward. */
+enum { LAST_CALL = 20, UP = 8 };
 
 enum { MOST_DIFFERENCES = 10, PATH_BYTES = 1024, ANSWERS = 100 };
 static size_t compared[CALLS], answers[CALLS][ANSWERS], skipped[CALLS], foreign, differences;
@@ -321,7 +321,7 @@ static void replay_case(reader *r, const char *listing) {
         fprintf(stderr, "%s, case %zu: no such call\n", file_name, case_number);
         exit(2);
     }
-    if (call >= CALLS || flags & EVEN) {
+    if (call >= CALLS || flags & UP) {
         foreign++;
         return;
     }

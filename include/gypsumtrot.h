@@ -32,8 +32,8 @@
 #include <stdint.h>
 
 /* The version of this header and of the archive that goes with it. */
-#define GT_VERSION_MAJOR 1       /* grows if a program written for the version before may have to be changed */
-#define GT_VERSION_MINOR 1       /* grows if something is added, and nothing that was there changes */
+#define GT_VERSION_MAJOR 2       /* grows if a program written for the version before may have to be changed */
+#define GT_VERSION_MINOR 0       /* grows if something is added, and nothing that was there changes */
 #define GT_VERSION_PATCH 0       /* grows if only costs or comments change, or a fault is mended */
 /* All three as one number that grows with each version: 10203 is 1.2.3. It serves in #if. */
 #define GT_VERSION (10000 * GT_VERSION_MAJOR + 100 * GT_VERSION_MINOR + GT_VERSION_PATCH)
@@ -130,20 +130,21 @@ gt_counts gt_check(const uint16_t *valences, size_t valences_length, const uint1
  *   old v      its place i holds m(v, old place i); it goes to (7 v + 3 s) / 16 if its valence n is 3, otherwise to
  *              (5 n v + 3 s) / 8 n, where s is the sum of its neighbours;
  *   new vertex its ring is p, m(p,b), m(q,b), q, m(q,a), m(p,a); it stands at (3 (p + q) + a + b) / 8.
- * Each coordinate is rounded once to the nearest unit, halves upward.
+ * Each coordinate is rounded once to the nearest unit, halves to the even one, alike on both sides of 0: 1/2 and -1/2
+ * give 0, 3/2 gives 2, -3/2 gives -2.
  * Reads:    level 0. Writes: the rows of levels 1 to `levels`, unused ring places with 65,535; level 0 and the tail stay.
  * Answers:  V, E, F of the last level.
  * Refuses:  8, then what gt_check refuses, 9, 10.
- * Cost:     linear in the vertices of the stack, and at each level in the squares of the control valences: 120 to 160
- *           instructions a stack vertex at valence 6; at valences near 32 up to 540 with one level, 135 with four. */
+ * Cost:     linear in the vertices of the stack, and at each level in the squares of the control valences: 120 to 165
+ *           instructions a stack vertex at valence 6; at valences near 32 up to 540 with one level, 140 with four. */
 gt_counts gt_refine(uint16_t *valences, size_t valences_length, uint16_t *rings, size_t rings_length,
                     int32_t *positions, size_t positions_length, size_t v, size_t levels);
 
 /* Moves control points and refreshes what depends on them, and only that. The moves work in order, each from where the
  * moves before it left the point, rounded to units. A sum or product is rounded once, as a 64-bit float; the result,
- * times 1,024, is rounded to a unit, halves upward. Touched are at level 0 the vertices named, changed or not; at each
- * next level the old vertices that are touched or have a touched neighbour below, and the new ones with p, q, a or b
- * touched below. Touched points above level 0 are set from the level below by gt_refine's rules; all others stay.
+ * times 1,024, is rounded to a unit as gt_refine does. Touched are at level 0 the vertices named, changed or not; at
+ * each next level the old vertices that are touched or have a touched neighbour below, and the new ones with p, q, a or
+ * b touched below. Touched points above level 0 are set from the level below by gt_refine's rules; all others stay.
  * After gt_refine, this leaves exactly what refining the moved control mesh anew would give.
  * Reads:    the stack to level `levels`, `moves`. Deeper levels count as tail.
  * Writes:   positions of touched points; the map: bit i mod 32 of word i / 32 is 1 if stack vertex i is touched, spare

@@ -9,8 +9,11 @@
 typedef uint32_t point __attribute__((vector_size(16)));
 typedef int32_t signed_point __attribute__((vector_size(16)));
 
-/* Divides by a power of two, rounding to the nearest, halves upward. */
-INLINE point nearest(point p, int power) { return (point)((signed_point)(p + (1u << (power - 1))) >> power); }
+/* Divides by a power of two, rounding to the nearest, halves to the even number. */
+INLINE point nearest(point p, int power) {
+    point odd = p >> power & 1;
+    return (point)((signed_point)(p + ((1u << (power - 1)) - 1) + odd) >> power);
+}
 
 /* The point of vertex v of a level that has another above it, so that a number follows it in the table. */
 INLINE point point_at(const int32_t *positions, size_t v) {
@@ -34,7 +37,8 @@ INLINE point vertex_point(point here, point sum, size_t valence) {
     uint32_t n = (uint32_t)valence;
     for (size_t c = 0; c < 3; c++) {
         uint32_t lifted = 5 * n * (here[c] + FAR) + 3 * (sum[c] + n * FAR);
-        here[c] = (lifted + 4 * n) / (8 * n) - FAR;
+        uint32_t up = (lifted + 4 * n) / (8 * n);
+        here[c] = up - ((lifted + 4 * n) % (8 * n) == 0 ? up % 2 : 0) - FAR;
     }
     return here;
 }

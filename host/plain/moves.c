@@ -139,12 +139,14 @@ static const int32_t *latest(const pending *list, const int32_t *positions, size
 
 INLINE int finite(double number) { return number >= -DBL_MAX && number <= DBL_MAX; }
 
-/* Millimetres to the nearest unit, halves upward. The product, its whole part and the rest are exact where it matters. */
+/* Millimetres to the nearest unit, halves to the even one. The product, its whole part and the rest are exact where it
+ * matters. */
 INLINE int32_t units(double millimetres) {
     double scaled = millimetres * GT_UNITS_A_MILLIMETRE;
     int32_t down = (int32_t)scaled;
     if (down > scaled) down--;
-    return down + (scaled - down >= 0.5);
+    double rest = scaled - down;
+    return down + (rest > 0.5 || (rest == 0.5 && down % 2 != 0));
 }
 
 /* Judges one move and adds where it leads; answers the number of the refusal. */

@@ -91,6 +91,21 @@ fn agrees(case: &Case, rest: &mut Body) -> bool {
     agrees && rest.0.is_empty()
 }
 
+/// A file of cases anew, with the flag UP in those that a list names: a number from 0 on each line.
+pub fn flagged(file: &[u8], list: &str) -> Vec<u8> {
+    let mut body = Body(&file[8..]);
+    let heads: Vec<usize> = (0..body.scalar())
+        .map(|_| {
+            let length = body.scalar();
+            body.take(length);
+            file.len() - body.0.len() - length
+        })
+        .collect();
+    let mut out = file.to_vec();
+    list.lines().for_each(|number| out[heads[number.parse::<usize>().expect("a case's number")] + 1] |= UP);
+    out
+}
+
 /// Compares every case of a file but those of later calls and of another rounding; answers how many were compared, how
 /// many skipped, and which differ.
 pub fn compare(file: &[u8]) -> (usize, usize, Vec<usize>) {
@@ -102,7 +117,7 @@ pub fn compare(file: &[u8]) -> (usize, usize, Vec<usize>) {
         let mut body = Body(file.take(length));
         let head = body.take(4);
         let (call, flags) = (head[0], head[1]);
-        if call > FLIP || flags & EVEN != 0 {
+        if call > FLIP || flags & UP != 0 {
             skipped += 1;
         } else if !agrees(&again(call, &mut body), &mut body) {
             different.push(i);

@@ -82,9 +82,11 @@ pub fn edge_count(rings: &[Vec<usize>]) -> usize {
     rings.iter().map(Vec::len).sum::<usize>() / 2
 }
 
-/// n / d to the nearest whole number, halves upward.
+/// n / d to the nearest whole number, halves to the even one.
 pub fn rounded(n: i128, d: i128) -> i64 {
-    (2 * n + d).div_euclid(2 * d) as i64
+    let (down, rest) = (n.div_euclid(d), 2 * n.rem_euclid(d));
+    let up = rest > d || rest == d && down % 2 != 0;
+    (down + up as i128) as i64
 }
 
 /// The edges p < q by p, then by q: the order in which new vertices are numbered.
@@ -157,7 +159,7 @@ pub struct Move {
     pub numbers: [f64; 3],
 }
 
-/// A float of at most 1024.0 either way, times 1,024, to the nearest unit, halves upward; exactly, from its bits.
+/// A float of at most 1024.0 either way, times 1,024, rounded; exactly, from its bits.
 pub fn units(millimetres: f64) -> i64 {
     let bits = millimetres.to_bits();
     let field = (bits >> 52 & 0x7ff) as i32;

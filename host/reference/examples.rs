@@ -81,10 +81,11 @@ fn floats() {
     assert_eq!(moved([77, 0, 0], &place(0, 0.1)), Ok([102, 0, 0]));
     assert_eq!(moved([102, 0, 0], &shift), Ok([204, 0, 0]));
     assert_eq!(moved([0, 0, 0], &place(0, 0.2)), Ok([205, 0, 0]));
-    assert_eq!([1.0 / 2048.0, -1.0 / 2048.0, -3.0 / 2048.0].map(units), [1, 0, -1]);
+    assert_eq!([1.0 / 2048.0, -1.0 / 2048.0, -3.0 / 2048.0].map(units), [0, 0, -2]);
     assert_eq!(moved([0, 0, 0], &place(0, 1024.0)), Ok([FAR, 0, 0]));
     assert_eq!(moved([0, 0, 0], &place(0, f64::from_bits(1024f64.to_bits() + 1))), Err(14));
-    assert_eq!([-1, 1, -3].map(|n| rounded(n, 2)), [0, 1, -1]);
+    assert_eq!([-1, 1, -3, 3].map(|n| rounded(n, 2)), [0, 0, -2, 2]);
+    assert!((1..=32).all(|d| (0..=200).all(|n| rounded(-n, d) == -rounded(n, d))));
     assert_eq!([5e-324, -5e-324, 0.49999999999999994 / 1024.0].map(units), [0, 0, 0]);
 }
 

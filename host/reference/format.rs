@@ -24,8 +24,8 @@ pub const FLIP: u8 = 18;
 
 const RAGGED: u8 = 1;
 const WIDE: u8 = 2;
-/// Set in cases of others that hold only where halves go to the even unit.
-pub const EVEN: u8 = 16;
+/// Set in cases of others that hold only where halves go upward.
+pub const UP: u8 = 8;
 
 pub trait Item: Copy + PartialEq {
     fn put(self, out: &mut Vec<u8>);

@@ -1,8 +1,9 @@
-//! An independent implementation of document 01 and of order 1 of document 02, and cases with the answers that it gives.
+//! An independent implementation of document 01 and of orders 1 and 2 of document 02, and cases with the answers that it gives.
 //!
 //!   reference cases SEED ROUNDS FILE              writes seeded cases
 //!   reference sample SEED ROUNDS EACH MOST FILE   writes EACH of them for each answer of each call, of at most MOST bytes
 //!   reference compare FILE                        recomputes the answers of given cases and compares
+//!   reference flag LIST FILE NEW                  writes FILE anew, the cases of LIST marked to hold for halves upward only
 //!   reference listing                             is the listing program
 
 mod answers;
@@ -50,13 +51,17 @@ fn main() -> std::io::Result<()> {
             println!("{cases} cases compared, {skipped} skipped, {} differ {different:?}", different.len());
             std::process::exit(!different.is_empty() as i32)
         }
+        ["flag", list, path, new] => {
+            std::fs::write(new, compare::flagged(&std::fs::read(path)?, &std::fs::read_to_string(list)?))
+        }
         ["listing"] => {
             let mut input = Vec::new();
             std::io::stdin().read_to_end(&mut input)?;
             std::io::stdout().write_all(calls::listing(&input).as_bytes())
         }
         _ => {
-            eprintln!("reference cases SEED ROUNDS FILE | sample SEED ROUNDS EACH MOST FILE | compare FILE | listing");
+            eprintln!("reference cases SEED ROUNDS FILE | sample SEED ROUNDS EACH MOST FILE | compare FILE");
+            eprintln!("          flag LIST FILE NEW | listing");
             std::process::exit(2)
         }
     }

@@ -8,7 +8,7 @@ use Rattle.mesh.specs.Mesh.{valences, edges, faces}
 use Rattle.mesh.specs.Tests.{repeatAt, badAt, improper, lacksAt, oneSided, openAt, openFaced}
 use Rattle.mesh.specs.Numbering.{start, number, rowOf, entryOf}
 use Rattle.mesh.specs.Refine.{up, mid, lowEnd, highEnd, oldRing, newRing, refine, level}
-use Rattle.mesh.specs.Round.{rounded}
+use Rattle.mesh.specs.Round.{roundNat, rounded}
 use Rattle.mesh.specs.Mask.{byMask, touched, touchedCount, refined}
 use Rattle.mesh.specs.Loop.{loopMask, loop}
 use Rattle.units.specs.Coordinate.{beyond}
@@ -39,7 +39,7 @@ use Rattle.cases.specs.Cases.{Cases}
 
 pub cases : Cases
 unfolding firstFrom first some has placeAfter placeBefore next prev follows valences edges faces repeatAt badAt improper lacksAt oneSided openAt openFaced start number rowOf entryOf
-    up mid lowEnd highEnd oldRing newRing refine level rounded byMask touched touchedCount refined loopMask loop beyond inside unitsOf mmUnit fit settledAt movedTo
+    up mid lowEnd highEnd oldRing newRing refine level roundNat rounded byMask touched touchedCount refined loopMask loop beyond inside unitsOf mmUnit fit settledAt movedTo
     put ringOf rows padded valenceRows ringRows coordinateAt pointRows refuseIf refuseAt andThen after withCounts badCount shortRings shortTables unfitRow beyondAt checkVerdict checkAnswer
     tableVerdict improperRow callVerdict withNeighbour nextAnswer levelStart stackCount shortStack badLevels tooLarge stackedValences stackedRings stackedPositions stackVerdict refineAnswer refinePositions recordOf payloadOf fileOf
     tenth fifth ofBits le add refineValences refineRings levelOf numberIn placed step word mapWords otherThan wanted strange beforeMoves moved applyVerdict touchedAt touchedTotal touchedMap applyAnswer applyMap whole withAmount

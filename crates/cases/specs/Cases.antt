@@ -55,8 +55,10 @@ pub record Cases : Type 0 where
   pub placed : (p : Mm) → movedTo p (Place tenth tenth tenth) ≡ At (diagonal (pos 102))
   pub shifted : movedTo (mmOf (diagonal (pos 102))) (Shift tenth tenth tenth) ≡ At (diagonal (pos 204))
   pub placedFifth : (p : Mm) → movedTo p (Place fifth fifth fifth) ≡ At (diagonal (pos 205))
-  -- 7, where 1/2048 and the float after 1024.0 are 1 * 2 ^ -11 and (2 ^ 52 + 1) * 2 ^ -42: "1/2048 mm gives 1, -1/2048 gives 0; 1024.0 is in, the next float is 14"
-  pub small : (p : Mm) → movedTo p (Place (fin false 1 (negsuc 10)) (fin true 1 (negsuc 10)) (fin false 1 (pos 10))) ≡ At (record { x = pos 1; y = pos 0; z = pos 1048576 })
+  -- 7, where 1/2048 and the float after 1024.0 are 1 * 2 ^ -11 and (2 ^ 52 + 1) * 2 ^ -42: "1/2048 mm gives 0" (order 2),
+  -- "-1/2048 gives 0; 1024.0 is in, the next float is 14"
+  pub small : (p : Mm) → movedTo p (Place (fin false 1 (negsuc 10)) (fin true 1 (negsuc 10)) (fin false 1 (pos 10)))
+      ≡ At (record { x = pos 0; y = pos 0; z = pos 1048576 })
   pub nextOut : (p : Mm) → movedTo p (Place tenth tenth (fin false (2 ^ 52 + 1) (negsuc 41))) ≡ Outside
   pub out14 : paperAmount (onRefined applyAnswer tetrahedron (roomy corners) (record { vertex = 0; change = Place tenth tenth (fin false (2 ^ 52 + 1) (negsuc 41)) } ∷ []))
       ≡ refused 14 0 0
@@ -69,8 +71,8 @@ pub record Cases : Type 0 where
   -- 10: "T's file is 118 bytes"
   pub bytes118 : length (fileOf 4 (ringsOf tetrahedron) (coordinateAt corners)) ≡ 118
   pub readBack : readRings (fileOf 4 (ringsOf tetrahedron) (coordinateAt corners)) (replicate 4 0) (replicate 128 0) corners ≡ tableOf tetrahedron
-  -- "-1/2 gives 0, 1/2 gives 1, -3/2 gives -1"
-  pub halves : map (λ n. rounded n 2) (negsuc 0 ∷ pos 1 ∷ negsuc 2 ∷ []) ≡ pos 0 ∷ pos 1 ∷ negsuc 0 ∷ []
+  -- order 2: "-1/2 and 1/2 both give 0, -3/2 gives -2"
+  pub halves : map (λ n. rounded n 2) (negsuc 0 ∷ pos 1 ∷ negsuc 2 ∷ []) ≡ pos 0 ∷ pos 0 ∷ negsuc 1 ∷ []
   -- the listing's points, behind T's own
   pub listing : take 30 (drop 12 (refinePositions 4 1 (roomy (valencesOf tetrahedron)) (roomy (tableOf tetrahedron)) (roomy corners))) ≡ listed
   -- and its whole text

@@ -17,7 +17,7 @@ use Rattle.mesh.proofs.Edges as E
 use Rattle.mesh.proofs.Lists.{lt-split}
 use Rattle.mesh.proofs.Rings.{getD-place, place-lt}
 use Rattle.units.specs.Coordinate.{InRange}
-use Rattle.rings.specs.Table.{put, gather, ringOf, rows, coordinateAt, pointRows}
+use Rattle.rings.specs.Table.{put, gather, ringOf, rows, coordinateAt, pointAt, pointRows}
 use Rattle.rings.proofs.Tables.{length-put, put-before, put-within, put-behind, gather-at}
 use Rattle.rings.proofs.Rows.{rows-ring}
 use Rattle.level.specs.Level.{Levels, Near, pointBy, coordinates, nextPoint, positionsUpTo}
@@ -99,6 +99,10 @@ module _ {n : ℕ} {vs rs : List ℕ} {ps : List ℤ} (L : Levels n vs rs ps) wh
         let e = f .long in
         let g = L .near .points in
         record { points = omega arith; near = λ v l axis i. subst InRange (sym (kept-coordinate axis v i l)) (L .near .near v l axis i) }
+
+    pub kept-point : (v : ℕ) → v < n → pointAt new v ≡ pointAt ps v
+    unfolding pointAt
+    kept-point v l = rw (kept-coordinate 0 v (omega arith) l, kept-coordinate 1 v (omega arith) l, kept-coordinate 2 v (omega arith) l)
 
     pub kept-levels : Levels n vs rs new
     kept-levels = record { ready = L .ready; near = kept-near; points = let e = f .long in let g = L .points in omega arith }

@@ -1,11 +1,12 @@
 // What a vertex decides of the new vertices around it: half of each one's ring, and the points of
 // those on its edges to greater neighbours. The caller hands over the vertex's valence n, so that a
-// call with a number is a copy for it; the table of valences is there for the contracts alone.
+// call with a number is a copy for it, and its point, which is read once for all its edges; the table
+// of valences is there for the contracts alone.
 ghost use mathlib.Core.Path.{_≡_};
 ghost use Prim.Native.Nat.{_+_, _*_, _≤_, _<_};
 ghost use lib.ListN.{length, getD, set, replicate};
 ghost use Rattle.mesh.specs.Limits.{mostValence, stackBound, nullVertex};
-ghost use Rattle.rings.specs.Table.{put};
+ghost use Rattle.rings.specs.Table.{put, pointAt};
 ghost use Rattle.level.specs.Level.{Ready, Levels, HasOld};
 ghost use Rattle.halves.specs.Nearer.{Halves, Points, OnePlace, PlacesBelow};
 use super::rows::row_of;
@@ -15,6 +16,7 @@ use rings::MOST_VALENCE;
 use rings::ring::place_after;
 use rings::ring::place_before;
 use rings::table::write_unused;
+use units::Point;
 
 // Writes the half of a new ring that lies around its lesser end p, and the unused places.
 fn write_low(rings: &mut [u16], row: usize, p: u16, before: u16, after: u16)
@@ -76,19 +78,22 @@ pub fn write_halves(valences: &[u16], rings: &mut [u16], count: usize, p: usize,
     }
 }
 
-// Writes the point of the new vertex at place k of p, which has n places, where that edge goes up.
+// Writes the point of the new vertex at place k of p, which has n places and stands at `here`, where
+// that edge goes up.
 fn write_point(
     valences: &[u16],
     rings: &[u16],
     positions: &mut [i32],
     count: usize,
     p: usize,
+    here: Point,
     n: usize,
     k: usize,
 )
     requires { ⌜ Levels count (now valences) (now rings) (now positions) ⌝ }
     requires { ⌜ HasOld count (now valences) (now rings) count ⌝ }
     requires { ⌜ p < count ⌝ }
+    requires { ⌜ here ≡ pointAt (now positions) p ⌝ }
     requires { ⌜ n ≡ getD (now valences) p 0 ⌝ }
     requires { ⌜ k < n ⌝ }
     ensures { λ _. ⌜ Points count (now (valences .entry)) (now (rings .entry)) (now (positions .entry)) (now (positions .exit)) (OnePlace p k) ⌝ }
@@ -98,28 +103,31 @@ fn write_point(
         return;
     }
     let x = rings[(count + p) * MOST_VALENCE + k] as usize;
-    let point = edge_point_at(ring, positions, count, p, k);
+    let point = edge_point_at(ring, positions, count, p, here, k);
     set_point(positions, count + x, point);
 }
 
-// Writes the points of the new vertices of p's edges to greater neighbours; p has n places.
+// Writes the points of the new vertices of p's edges to greater neighbours; p has n places and stands
+// at `here`.
 pub fn write_points(
     valences: &[u16],
     rings: &[u16],
     positions: &mut [i32],
     count: usize,
     p: usize,
+    here: Point,
     n: usize,
 )
     requires { ⌜ Levels count (now valences) (now rings) (now positions) ⌝ }
     requires { ⌜ HasOld count (now valences) (now rings) count ⌝ }
     requires { ⌜ p < count ⌝ }
+    requires { ⌜ here ≡ pointAt (now positions) p ⌝ }
     requires { ⌜ n ≡ getD (now valences) p 0 ⌝ }
     ensures { λ _. ⌜ Points count (now (valences .entry)) (now (rings .entry)) (now (positions .entry)) (now (positions .exit)) (PlacesBelow p n) ⌝ }
 {
     let mut k = 0;
     while k < n {
-        write_point(valences, rings, positions, count, p, n, k);
+        write_point(valences, rings, positions, count, p, here, n, k);
         k += 1;
     }
 }

@@ -20,7 +20,7 @@ use Rattle.units.specs.Points.{edgePoint, vertexPoint, ringSum}
 use Rattle.units.specs.declared.Point.{Point}
 use Rattle.units.proofs.Coordinates.{from, handed, there}
 use Rattle.units.proofs.Masks.{edge-mask, vertex-mask}
-use Rattle.rings.specs.Table.{put, ringOf, rows, coordinateAt}
+use Rattle.rings.specs.Table.{put, ringOf, rows, coordinateAt, pointAt}
 use Rattle.rings.proofs.Rows.{rows-ring}
 use Rattle.level.specs.Level.{Ready, Near, AllBelow, SumOf, pointBy, edgePointBy, coordinates}
 use Rattle.level.proofs.Mids.{ready-length, neighbour-lt, after-place, before-place}
@@ -74,6 +74,19 @@ module _ {n : ℕ} {ps : List ℤ} (near : Near n ps) {v : ℕ} (l : v < n) wher
   pub read-z : Read (coordinateAt ps 2) v (getD ps (v * 3 + 2) (pos 0))
   unfolding coordinateAt
   read-z = record { is = refl; near = near .near v l 2 (omega arith) }
+
+  -- the coordinates of v's point, where it was read before
+  pub here-x : {here : Point} → here ≡ pointAt ps v → Read (coordinateAt ps 0) v (here .x)
+  unfolding pointAt
+  here-x e = record { is = ap (λ (p : Point). p .x) e; near = subst (λ (p : Point). InRange (p .x)) (sym e) (near .near v l 0 (omega arith)) }
+
+  pub here-y : {here : Point} → here ≡ pointAt ps v → Read (coordinateAt ps 1) v (here .y)
+  unfolding pointAt
+  here-y e = record { is = ap (λ (p : Point). p .y) e; near = subst (λ (p : Point). InRange (p .y)) (sym e) (near .near v l 1 (omega arith)) }
+
+  pub here-z : {here : Point} → here ≡ pointAt ps v → Read (coordinateAt ps 2) v (here .z)
+  unfolding pointAt
+  here-z e = record { is = ap (λ (p : Point). p .z) e; near = subst (λ (p : Point). InRange (p .z)) (sym e) (near .near v l 2 (omega arith)) }
 
 -- as a call is handed it
 module _ {at : ℕ → ℤ} {v : ℕ} {z : ℤ} (r : Read at v z) where

@@ -6,11 +6,12 @@ ghost use Rattle.mesh.specs.Limits.{mostValence, mostVertices, stackBound};
 ghost use Rattle.mesh.specs.Loop.{edgeMask, vertexMask};
 ghost use Rattle.mesh.specs.Ring.{placeAfter, placeBefore};
 ghost use Rattle.units.specs.Coordinate.{InRange};
-ghost use Rattle.rings.specs.Table.{put, ringOf};
+ghost use Rattle.rings.specs.Table.{put, ringOf, pointAt};
 ghost use Rattle.level.specs.Level.{Ready, Near, AllBelow, SumsOf, pointBy, edgePointBy, coordinates};
 use super::Sums;
 use rings::ring::place_after;
 use rings::ring::place_before;
+use rings::table::point_of;
 use rings::table::ring_of;
 use units::Point;
 use units::biased;
@@ -77,41 +78,48 @@ pub fn old_point(
     ring_point(ring_of(valences, rings, v), positions, count, v)
 }
 
-// The point of the new vertex of the edge p, q, with the vertices a and b beside it.
-fn edge_point_of(positions: &[i32], count: usize, p: usize, q: usize, a: usize, b: usize) -> Point
+// The point of the new vertex of the edge p, q, with the vertices a and b beside it; p stands at `here`.
+fn edge_point_of(
+    positions: &[i32],
+    count: usize,
+    p: usize,
+    here: Point,
+    q: usize,
+    a: usize,
+    b: usize,
+) -> Point
     requires { ⌜ Near count (now positions) ⌝ }
     requires { ⌜ count ≤ mostVertices ⌝ }
+    requires { ⌜ here ≡ pointAt (now positions) p ⌝ }
     requires { ⌜ p < count ⌝ ∗ ⌜ q < count ⌝ ∗ ⌜ a < count ⌝ ∗ ⌜ b < count ⌝ }
     ensures { λ r. ⌜ r ≡ pointBy (edgeMask p q a b) (now (positions .entry)) ⌝ }
     ensures { λ r. ⌜ InRange (r .x) × InRange (r .y) × InRange (r .z) ⌝ }
 {
-    let p = p * 3;
     let q = q * 3;
     let a = a * 3;
     let b = b * 3;
     Point {
-        x: edge_point(positions[p], positions[q], positions[a], positions[b]),
-        y: edge_point(
-            positions[p + 1],
-            positions[q + 1],
-            positions[a + 1],
-            positions[b + 1],
-        ),
-        z: edge_point(
-            positions[p + 2],
-            positions[q + 2],
-            positions[a + 2],
-            positions[b + 2],
-        ),
+        x: edge_point(here.x, positions[q], positions[a], positions[b]),
+        y: edge_point(here.y, positions[q + 1], positions[a + 1], positions[b + 1]),
+        z: edge_point(here.z, positions[q + 2], positions[a + 2], positions[b + 2]),
     }
 }
 
-// The point of the new vertex of the edge from p, which has this ring, to the neighbour at place i.
-pub fn edge_point_at(ring: &[u16], positions: &[i32], count: usize, p: usize, i: usize) -> Point
+// The point of the new vertex of the edge from p, which has this ring and stands at `here`, to the
+// neighbour at place i.
+pub fn edge_point_at(
+    ring: &[u16],
+    positions: &[i32],
+    count: usize,
+    p: usize,
+    here: Point,
+    i: usize,
+) -> Point
     requires { ⌜ Near count (now positions) ⌝ }
     requires { ⌜ count ≤ mostVertices ⌝ }
     requires { ⌜ AllBelow count (now ring) ⌝ }
     requires { ⌜ p < count ⌝ }
+    requires { ⌜ here ≡ pointAt (now positions) p ⌝ }
     requires { ⌜ i < length (now ring) ⌝ }
     ensures { λ r. ⌜ r ≡ pointBy (edgeMask p (getD (now (ring .entry)) i 0) (getD (now (ring .entry)) (placeAfter (length (now (ring .entry))) i) 0) (getD (now (ring .entry)) (placeBefore (length (now (ring .entry))) i) 0)) (now (positions .entry)) ⌝ }
     ensures { λ r. ⌜ InRange (r .x) × InRange (r .y) × InRange (r .z) ⌝ }
@@ -120,7 +128,7 @@ pub fn edge_point_at(ring: &[u16], positions: &[i32], count: usize, p: usize, i:
     let q = ring[i] as usize;
     let a = ring[place_after(n, i)] as usize;
     let b = ring[place_before(n, i)] as usize;
-    edge_point_of(positions, count, p, q, a, b)
+    edge_point_of(positions, count, p, here, q, a, b)
 }
 
 // The point of the new vertex of the edge from p to the neighbour at place i of p.
@@ -139,7 +147,8 @@ pub fn new_point(
     ensures { λ r. ⌜ r ≡ edgePointBy (ringOf (now (valences .entry)) (now (rings .entry)) p) (now (positions .entry)) p (getD (ringOf (now (valences .entry)) (now (rings .entry)) p) i 0) ⌝ }
     ensures { λ r. ⌜ InRange (r .x) × InRange (r .y) × InRange (r .z) ⌝ }
 {
-    edge_point_at(ring_of(valences, rings, p), positions, count, p, i)
+    let here = point_of(positions, p);
+    edge_point_at(ring_of(valences, rings, p), positions, count, p, here, i)
 }
 
 // Writes the point of vertex v.

@@ -39,9 +39,6 @@ sub-add a b c d =
     (λ l i. sub-eq l (suc k) (a + c) (b + d) (omega arith))
     (λ l i. sym (sub-neg (a + c) (b + d) (suc (k + l)) (omega arith))))
 
-pub sub-add-pos : (a b c : ℕ) → subℕ a b +ℤ pos c ≡ subℕ (a + c) b
-sub-add-pos a b c = ap (λ (z : ℤ). subℕ a b +ℤ z) (sym (sub-pos c 0 c (omega arith))) ∙ sub-add a b c 0 ∙ sub-eq (a + c) (b + 0) (a + c) b (omega arith)
-
 pub neg-sub : (m a b : ℕ) → b ≡ a + m → negℤ (pos m) ≡ subℕ a b
 neg-sub zero a b e = sym (sub-pos a b 0 (omega arith))
 neg-sub (suc m) a b e = sym (sub-neg a b m (omega arith))

@@ -8,6 +8,7 @@ pub mod RefinedRows
 pub mod LoopMasks
 pub mod TouchedPoints
 pub mod RoundsToNearest
+pub mod HalvesGoToEven
 pub mod RingsGoRound
 pub mod RingsAfterEdits
 -- laws

@@ -1,78 +1,107 @@
--- The laws of `rounded` that the masks go by: it commutes with whole numbers added, and stays between whole numbers. Assumes nothing.
-use mathlib.Core.Path.{_≡_, sym, ap, _∙_}
-use Prim.Native.Nat.{ℕ, suc, _+_, _*_, _/_, _%_, _≤_, _<_}
-use native.Mathlib.Nat.{mul-add-div-right, div-add-mod', mod-lt, lt-of-mul-lt-mul-right, mul-assoc, mul-comm, mul-left-comm, le-div-iff-mul-le, div-lt-iff-lt-mul, div-eq-of-lt-le, add-mul}
+-- The laws of rounding that masks, floats and code go by: it commutes with even whole numbers added, stays between whole numbers, and is one division.
+-- Assumes nothing.
+use mathlib.Core.Path.{_≡_, refl, sym, ap, _∙_}
+use Prim.Native.Nat.{ℕ, zero, suc, _+_, _-_, _*_, _/_, _%_, _≤_, _<_}
+use native.Mathlib.Nat.{lt-of-mul-lt-mul-right, div-add-mod', mod-lt, div-eq-of-lt-le, mul-left-comm, add-mul}
 use native.Mathlib.Omega.{arith}
-use lib.Ieee.Nearest.{div-same}
-use lib.IntN.{ℤ, pos, subℕ, _+ℤ_}
-use Rattle.mesh.specs.Round.{floorDiv, rounded, roundNat}
-use Rattle.mesh.proofs.Ints.{sub-pos, sub-neg, sub-mul, sub-add-pos, by-sign}
+use lib.Ieee.Nearest.{closest-same}
+use lib.IntN.{ℤ, subℕ}
+use Rattle.mesh.specs.Round.{rounded, roundNat, NearestTo}
+use Rattle.mesh.proofs.Ints.{sub-pos, neg-sub, by-sign}
+use Rattle.mesh.proofs.RoundsToNearest.{by-rest, rounds-to-nearest, nearest-is-one}
 
--- What a change of the rule has to prove again: `rounded-sub`, `roundNat-ge`, `roundNat-le`, `roundNat-same`, `roundNat-near`.
+-- What a change of the rule has to prove again: `by-rest`, `rounds-to-nearest`, `nearest-is-one`, `roundNat-same`, `roundNat-divided`.
 
--- rounding down, with a multiple of the divisor taken off
-floor-sub : (a b d : ℕ) → 0 < d → floorDiv (subℕ a (b * d)) d ≡ subℕ (a / d) b
-floor-sub a b d p =
-    by-sign (λ (z : ℤ). floorDiv z d ≡ subℕ (a / d) b) a (b * d)
-    (λ k h. sym (sub-pos (a / d) b (k / d) (ap (λ (x : ℕ). x / d) h ∙ mul-add-div-right p b k)))
-    (λ k h. sym (sub-neg (a / d) b (k / d) (whole k h)))
-  where
-    whole : (k : ℕ) → b * d ≡ suc (a + k) → b ≡ suc (a / d + k / d)
-    whole k h =
-        let s = a / d + k / d in
-        let x : a / d * d + a % d ≡ a = div-add-mod' a d in
-        let y : k / d * d + k % d ≡ k = div-add-mod' k d in
-        let u : a % d < d = mod-lt a p in
-        let v : k % d < d = mod-lt k p in
-        let z : s * d ≡ a / d * d + k / d * d = add-mul (a / d) (k / d) d in
-        let w : (s + 2) * d ≡ s * d + 2 * d = add-mul s 2 d in
-        let lo : s * d < b * d = omega arith in
-        let hi : b * d < (s + 2) * d = omega arith in
-        let lo' : s < b = lt-of-mul-lt-mul-right d lo in
-        let hi' : b < s + 2 = lt-of-mul-lt-mul-right d hi in
-        omega arith
+-- a number that is as near as what is rounded is what is rounded
+rounds-to : (n d r : ℕ) → 0 < d → NearestTo n d r → roundNat n d ≡ r
+rounds-to n d r p h = nearest-is-one p (rounds-to-nearest n d p) h
 
-twice-pos : (d : ℕ) → 0 < d → 0 < 2 * d
-twice-pos d h = omega arith
+-- a whole number that is at most a half over another is no greater
+at-most-half : (a b d : ℕ) → 0 < d → 2 * (a * d) ≤ 2 * (b * d) + d → a ≤ b
+at-most-half a b d p h =
+    let t : (b + 1) * d ≡ b * d + 1 * d = add-mul b 1 d in
+    let l : a < b + 1 = lt-of-mul-lt-mul-right d (let g : a * d < (b + 1) * d = omega arith in g) in
+    omega arith
+
+-- moved up by an even number
+shift : (b k d : ℕ) → 0 < d → b % 2 ≡ 0 → roundNat (b * d + k) d ≡ b + roundNat k d
+shift b k d p e =
+    let r = roundNat k d in
+    let h = rounds-to-nearest k d p in
+    let t : (b + r) * d ≡ b * d + r * d = add-mul b r d in
+    rounds-to (b * d + k) d (b + r) p
+    (record {
+      up = omega (arith, h .up);
+      down = omega (arith, h .down);
+      even-up = λ q. omega (arith, h .even-up (omega arith));
+      even-down = λ q. omega (arith, h .even-down (omega arith));
+    })
+
+-- two numbers that make up an even number times d: so do they rounded
+reflect : (n m b d : ℕ) → 0 < d → b % 2 ≡ 0 → n + m ≡ b * d → roundNat n d + roundNat m d ≡ b
+reflect n m b d p e s =
+    let r = roundNat m d in
+    let h = rounds-to-nearest m d p in
+    let l : r ≤ b = at-most-half r b d p (omega (arith, h .up)) in
+    let t : (b - r + r) * d ≡ (b - r) * d + r * d = add-mul (b - r) r d in
+    let u : (b - r + r) * d ≡ b * d = ap (λ (i : ℕ). i * d) (omega arith) in
+    let g : roundNat n d ≡ b - r
+    =
+    rounds-to n d (b - r) p
+    (record {
+      up = omega (arith, h .down);
+      down = omega (arith, h .up);
+      even-up = λ q. omega (arith, h .even-down (omega arith));
+      even-down = λ q. omega (arith, h .even-up (omega arith));
+    }) in
+    omega arith
 
 pub rounded-sub : (n b d : ℕ) → 0 < d → b % 2 ≡ 0 → rounded (subℕ n (b * d)) d ≡ subℕ (roundNat n d) b
-unfolding rounded roundNat
+unfolding rounded
 rounded-sub n b d p e =
-    ap (λ (z : ℤ). floorDiv (z +ℤ pos d) (2 * d)) (sub-mul 2 n (b * d))
-    ∙ ap (λ (z : ℤ). floorDiv z (2 * d)) (sub-add-pos (2 * n) (2 * (b * d)) d)
-    ∙ ap (λ (m : ℕ). floorDiv (subℕ (2 * n + d) m) (2 * d)) (mul-left-comm 2 b d)
-    ∙ floor-sub (2 * n + d) b (2 * d) (twice-pos d p)
+    by-sign (λ (z : ℤ). rounded z d ≡ subℕ (roundNat n d) b) n (b * d)
+    (λ k h. sym (sub-pos (roundNat n d) b (roundNat k d) (ap (λ (x : ℕ). roundNat x d) h ∙ shift b k d p e)))
+    (λ k h. neg-sub (roundNat (suc k) d) (roundNat n d) b (sym (reflect n (suc k) b d p e (omega arith))))
 
 pub roundNat-ge : (lo n d : ℕ) → 0 < d → lo * d ≤ n → lo ≤ roundNat n d
-unfolding roundNat
-roundNat-ge lo n d p h =
-    let e : lo * (2 * d) ≡ 2 * (lo * d) = mul-left-comm lo 2 d in
-    le-div-iff-mul-le (twice-pos d p) .1 (let g : lo * (2 * d) ≤ 2 * n + d = omega arith in g)
+roundNat-ge lo n d p h = at-most-half lo (roundNat n d) d p (omega (arith, rounds-to-nearest n d p .down))
 
 pub roundNat-le : (hi n d : ℕ) → 0 < d → n ≤ hi * d → roundNat n d ≤ hi
-unfolding roundNat
-roundNat-le hi n d p h =
-    let e : (hi + 1) * (2 * d) ≡ hi * (2 * d) + 1 * (2 * d) = add-mul hi 1 (2 * d) in
-    let e' : hi * (2 * d) ≡ 2 * (hi * d) = mul-left-comm hi 2 d in
-    let g : 2 * n + d < (hi + 1) * (2 * d) = omega arith in
-    let r : (2 * n + d) / (2 * d) < hi + 1 = div-lt-iff-lt-mul (twice-pos d p) .1 g in
-    omega arith
+roundNat-le hi n d p h = at-most-half (roundNat n d) hi d p (omega (arith, rounds-to-nearest n d p .up))
+
+-- less than a half either way is gone
+pub roundNat-near : (b m d : ℕ) → 2 * m < 2 * (b * d) + d → 2 * (b * d) < 2 * m + d → roundNat m d ≡ b
+roundNat-near b m d h k =
+    rounds-to m d b (omega arith) (record { up = omega arith; down = omega arith; even-up = λ e. omega arith; even-down = λ e. omega arith })
 
 -- equal fractions round alike
 pub roundNat-same : (a b c d : ℕ) → 0 < b → 0 < d → a * d ≡ c * b → roundNat a b ≡ roundNat c d
 unfolding roundNat
-roundNat-same a b c d p q e =
-    let x : (2 * a + b) * (2 * d) ≡ 2 * a * (2 * d) + b * (2 * d) = add-mul (2 * a) b (2 * d) in
-    let y : (2 * c + d) * (2 * b) ≡ 2 * c * (2 * b) + d * (2 * b) = add-mul (2 * c) d (2 * b) in
-    let u : 2 * a * (2 * d) ≡ 2 * (2 * (a * d)) = simp (mul-assoc, mul-comm, mul-left-comm) in
-    let v : 2 * c * (2 * b) ≡ 2 * (2 * (c * b)) = simp (mul-assoc, mul-comm, mul-left-comm) in
-    let w : b * (2 * d) ≡ d * (2 * b) = simp (mul-assoc, mul-comm, mul-left-comm) in
-    div-same (2 * a + b) (2 * b) (2 * c + d) (2 * d) (twice-pos b p) (twice-pos d q) (let z : (2 * a + b) * (2 * d) ≡ (2 * c + d) * (2 * b) = omega arith in z)
+roundNat-same = closest-same
 
--- less than a half either way is gone
-pub roundNat-near : (b m d : ℕ) → 2 * m < 2 * (b * d) + d → 2 * (b * d) < 2 * m + d → roundNat m d ≡ b
-unfolding roundNat
-roundNat-near b m d h k =
-    let e : (b + 1) * (2 * d) ≡ b * (2 * d) + 1 * (2 * d) = add-mul b 1 (2 * d) in
-    let e' : b * (2 * d) ≡ 2 * (b * d) = mul-left-comm b 2 d in
-    div-eq-of-lt-le (2 * d) (let z : b * (2 * d) ≤ 2 * m + d = omega arith in z) (let z : 2 * m + d < (b + 1) * (2 * d) = omega arith in z)
+-- rounding is one division: a half less a little is added to n, and a little more where the quotient is odd
+module _ (n d : ℕ) (p : 0 < d) where
+  abbrev lifted : ℕ
+  lifted = 2 * n + (d - 1) + n / d % 2
+
+  -- the quotient and b more, where the remainder says so
+  divided : (b : ℕ) → b * d * 2 ≤ n % d * 2 + (d - 1) + n / d % 2 → n % d * 2 + (d - 1) + n / d % 2 < b * d * 2 + 2 * d
+      → lifted / (2 * d) ≡ n / d + b
+  divided b l u =
+      let e : n / d * d + n % d ≡ n = div-add-mod' n d in
+      let f : (n / d + b) * (2 * d) ≡ 2 * ((n / d + b) * d) = mul-left-comm (n / d + b) 2 d in
+      let g : (n / d + b) * d ≡ n / d * d + b * d = add-mul (n / d) b d in
+      let h : (n / d + b + 1) * (2 * d) ≡ (n / d + b) * (2 * d) + 1 * (2 * d) = add-mul (n / d + b) 1 (2 * d) in
+      div-eq-of-lt-le (2 * d) (let k : (n / d + b) * (2 * d) ≤ lifted = omega arith in k) (let k : lifted < (n / d + b + 1) * (2 * d) = omega arith in k)
+
+  half : (b : ℕ) → n / d % 2 ≡ b → b < 2 → n % d * 2 ≡ d → lifted / (2 * d) ≡ n / d + b
+  half zero e l h = divided 0 (omega arith) (omega arith)
+  half (suc zero) e l h = divided 1 (omega arith) (omega arith)
+  half (suc (suc b)) e l h = absurd (omega arith)
+
+  pub roundNat-divided : (2 * n + (d - 1) + n / d % 2) / (2 * d) ≡ roundNat n d
+  roundNat-divided =
+      by-rest (λ (x : ℕ). lifted / (2 * d) ≡ x) n d
+      (λ h. divided 0 (omega arith) (omega arith) ∙ omega arith)
+      (λ h. half (n / d % 2) refl (let l : n / d % 2 < 2 = omega arith in l) h)
+      (λ h. divided 1 (omega arith) (omega (arith, mod-lt n p)) ∙ omega arith)

@@ -4,17 +4,13 @@ use mathlib.Core.Path.{_≡_, refl, sym, ap, _∙_}
 use mathlib.Core.Bool.{Bool, true, false, cond}
 use mathlib.Core.List.{List, [], _∷_, _++_}
 use Prim.Native.Nat.{ℕ, _+_, _*_, _<_, _≤_}
-use native.Mathlib.Nat.{add-zero}
 use native.Mathlib.Numerals.{add-one}
 use native.Mathlib.Omega.{arith}
 use borrow.Author.Tests.{lt-ltb, le-ltb, le-leb, lt-leb, eq-eqb, ne-eqb}
 use lib.Dec.{eqb}
-use lib.IntN.{ℤ, pos}
+use lib.IntN.{ℤ}
 use lib.ListN.{length, take, getD}
 use lib.Seq.{take-suc}
-use mir.Syntax.{w32}
-use mir.Val.{toZ, ofZ, SFits}
-use mir.ValLaws.{toZ-ofZ}
 use Rattle.units.specs.Coordinate.{beyond}
 use Rattle.millimetres.specs.Millimetres.{mmOf}
 use Rattle.millimetres.specs.Move.{movedTo}
@@ -22,7 +18,7 @@ use Rattle.millimetres.specs.declared.Mm.{Mm}
 use Rattle.units.specs.declared.Point.{Point}
 use Rattle.millimetres.specs.declared.Moved.{Moved}
 use Rattle.millimetres.specs.declared.Moved.the-variants.{At, NotFinite, Outside}
-use Rattle.rings.specs.Table.{pointAt, coordinateAt}
+use Rattle.rings.specs.Table.{pointAt}
 use Rattle.rings.specs.Verdict.{after}
 use Rattle.rings.specs.declared.Refusal.{Refusal}
 use Rattle.rings.specs.declared.Refusal.the-variants as refusal
@@ -51,10 +47,9 @@ module _ (es : List Entry) (k v : ℕ) (p q : Point) (d : Entry) (h : k < length
 
 -- a point read out of the table
 module _ (ps : List ℤ) (v : ℕ) where
-  pub read-there : v * 3 + 2 < length ps → SFits w32 (getD ps (v * 3) (pos 0)) → SFits w32 (getD ps (v * 3 + 1) (pos 0)) → SFits w32 (getD ps (v * 3 + 2) (pos 0))
-      → record { x = toZ w32 (ofZ w32 (getD ps (v * 3) (pos 0))); y = toZ w32 (ofZ w32 (getD ps (v * 3 + 1) (pos 0))); z = toZ w32 (ofZ w32 (getD ps (v * 3 + 2) (pos 0))) } ≡ readPoint ps v
-  unfolding readPoint pointAt coordinateAt
-  read-there h a b c = rw (lt-ltb _ _ h, toZ-ofZ w32 _ a, toZ-ofZ w32 _ b, toZ-ofZ w32 _ c, add-zero)
+  pub read-there : v * 3 + 2 < length ps → pointAt ps v ≡ readPoint ps v
+  unfolding readPoint
+  read-there h = rw (lt-ltb _ _ h)
 
   pub read-behind : length ps ≤ v * 3 + 2 → origin ≡ readPoint ps v
   unfolding readPoint

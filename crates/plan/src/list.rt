@@ -15,6 +15,7 @@ use millimetres::mm_of;
 use millimetres::moved_point;
 use rings::Refusal;
 use rings::Verdict;
+use rings::table::point_of;
 use units::Point;
 
 // The plan before the first move, with what was judged before it.
@@ -36,13 +37,8 @@ fn read_point(positions: &[i32], v: usize) -> Point
     requires { ⌜ v < 4294967296 ⌝ }
     ensures { λ r. ⌜ r ≡ readPoint (now (positions .entry)) v ⌝ }
 {
-    let a = v * 3;
-    if a + 2 < positions.len() {
-        return Point {
-            x: positions[a],
-            y: positions[a + 1],
-            z: positions[a + 2],
-        };
+    if v * 3 + 2 < positions.len() {
+        return point_of(positions, v);
     }
     Point { x: 0, y: 0, z: 0 }
 }

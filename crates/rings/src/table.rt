@@ -1,9 +1,9 @@
-// The lent tables: how a ring lies in them, and whether they have room.
+// The lent tables: how a ring and a point lie in them, and whether they have room.
 ghost use mathlib.Core.Path.{_≡_};
 ghost use Prim.Native.Nat.{_+_, _-_, _*_, _≤_, _<_};
 ghost use lib.ListN.{length, getD, replicate};
 ghost use Rattle.mesh.specs.Limits.{mostCount, mostValence, nullVertex};
-ghost use Rattle.rings.specs.Table.{ringOf, put};
+ghost use Rattle.rings.specs.Table.{ringOf, pointAt, put};
 ghost use Rattle.rings.specs.Check.{badCount, shortRings, shortTables, improperRow};
 ghost use Rattle.rings.specs.Accepts.{Room, HasRow, Fit};
 use super::LEAST_COUNT;
@@ -11,6 +11,7 @@ use super::MOST_COUNT;
 use super::MOST_VALENCE;
 use super::NULL_VERTEX;
 use super::ring::has_bad;
+use units::Point;
 
 // The ring of v: the used places of its row.
 pub fn ring_of<'a, 'b>(valences: &'a [u16], rings: &'b [u16], v: usize) -> &'b [u16]
@@ -34,6 +35,19 @@ pub fn write_unused(rings: &mut [u16], row: usize, used: usize)
     while k < MOST_VALENCE {
         rings[a + k] = NULL_VERTEX;
         k += 1;
+    }
+}
+
+// The point of v.
+pub fn point_of(positions: &[i32], v: usize) -> Point
+    requires { ⌜ v * 3 + 3 ≤ length (now positions) ⌝ }
+    ensures { λ r. ⌜ r ≡ pointAt (now (positions .entry)) v ⌝ }
+{
+    let a = v * 3;
+    Point {
+        x: positions[a],
+        y: positions[a + 1],
+        z: positions[a + 2],
     }
 }
 

@@ -17,6 +17,7 @@ use halves::edges::write_points;
 use halves::rows::row_of;
 use level::points::ring_point;
 use level::points::set_point;
+use rings::table::point_of;
 
 // Writes old vertex p of the next level but for its valence, where `start` edges come before its own; answers how many come before the next vertex's. The first way is a copy for the valence that nearly all vertices have.
 fn write_vertex(
@@ -40,14 +41,14 @@ fn write_vertex(
     if n == 6 {
         let low = count_below(row_of(rings, p, 6), next);
         let point = ring_point(row_of(rings, p, 6), positions, count, p);
-        write_old_ring(valences, rings, count, p, 6, start, low);
         set_point(positions, count + p, point);
+        write_old_ring(valences, rings, count, p, 6, start, low);
         return start + 6 - low;
     }
     let low = count_below(row_of(rings, p, n), next);
     let point = ring_point(row_of(rings, p, n), positions, count, p);
-    write_old_ring(valences, rings, count, p, n, start, low);
     set_point(positions, count + p, point);
+    write_old_ring(valences, rings, count, p, n, start, low);
     start + n - low
 }
 
@@ -77,13 +78,14 @@ fn write_around(valences: &[u16], rings: &mut [u16], positions: &mut [i32], coun
     ensures { λ _. ⌜ Halves count (now (valences .entry)) (now (rings .entry)) (now (rings .exit)) (PlacesBelow p (getD (now (valences .entry)) p 0)) ⌝ }
     ensures { λ _. ⌜ Points count (now (valences .entry)) (now (rings .entry)) (now (positions .entry)) (now (positions .exit)) (PlacesBelow p (getD (now (valences .entry)) p 0)) ⌝ }
 {
+    let here = point_of(positions, p);
     let n = valences[p] as usize;
     if n == 6 {
-        write_points(valences, rings, positions, count, p, 6);
+        write_points(valences, rings, positions, count, p, here, 6);
         write_halves(valences, rings, count, p, 6);
         return;
     }
-    write_points(valences, rings, positions, count, p, n);
+    write_points(valences, rings, positions, count, p, here, n);
     write_halves(valences, rings, count, p, n);
 }
 

@@ -24,20 +24,25 @@ pub fn difference(a: u64, b: u64) -> i32
     (a as i32) - (b as i32)
 }
 
-// n / d to the nearest whole number, halves upward. The library rounds here and in `nearest_by_twice` only.
+// n / d to the nearest whole number, halves to the even one: a half less a little is added, and a
+// little more where the quotient is odd. The library rounds here and in `nearest_by_twice` only.
 pub fn nearest(n: u64, d: u64) -> u64
     requires { ⌜ n < 2 ^ 62 ⌝ ∗ ⌜ d < 2 ^ 61 ⌝ ∗ ⌜ 0 < d ⌝ }
     ensures { λ r. ⌜ r ≡ roundNat n d ⌝ }
 {
-    (2 * n + d) / (2 * d)
+    let odd = n / d % 2;
+    (2 * n + (d - 1) + odd) / (2 * d)
 }
 
-// n / 2h to the nearest whole number, halves upward, in 32 bits.
+// n / 2h in the same way, in 32 bits. There is no branch, so that three coordinates can be worked
+// out at once.
 fn nearest_by_twice(n: u32, h: u32) -> u32
     requires { ⌜ n < 2 ^ 31 ⌝ ∗ ⌜ h < 2 ^ 30 ⌝ ∗ ⌜ 0 < h ⌝ }
     ensures { λ r. ⌜ r ≡ roundNat n (2 * h) ⌝ }
 {
-    (n + h) / (2 * h)
+    let d = 2 * h;
+    let odd = n / d % 2;
+    (n + (h - 1) + odd) / d
 }
 
 // The mean n / 2h, rounded and moved down again: n adds coordinates that were moved up, with weights

@@ -35,11 +35,13 @@ cast-if1 c = omega (arith, c .shared-slice-known3 .given (c .before .before .bef
 
 returns : tie.Need-returns
 returns c =
-    let s = c .before .before .before .before .before in
+    let row = c .before .before in
+    let s = row .before .before .before in
     let L = s .pre .0 in
     let h = s .pre .1 .1 .0 in
     let l : s .args .k < getD (s .args .valences .now) (s .args .p) 0 = omega arith in
-    let e = ap (λ t. getD t (s .args .k) 0) (row-is-ring (s .args .valences .now) (s .args .rings .now) (s .args .p) (s .args .n) (s .pre .1 .1 .1 .0) (c .before .before .row-of .ensures .0)) in
+    let r = row-is-ring (s .args .valences .now) (s .args .rings .now) (s .args .p) (s .args .n) (s .pre .1 .1 .1 .1 .0) (row .row-of .ensures .0) in
+    let e = ap (λ t. getD t (s .args .k) 0) r in
     no-point L (s .args .p) (s .args .k) h l (omega (arith, e, c .if1 .taken))
 
 add-x : tie.Need-add-x
@@ -77,11 +79,14 @@ cast-x c = let s = c .before .before .before .before .before .before .args in om
 
 edge-point-at-requires : tie.Need-edge-point-at-requires
 edge-point-at-requires c κs =
-    let s = c .before .before .before .before .before .before .before in
+    let row = c .before .before .before .before in
+    let s = row .before .before .before in
     let L = s .pre .0 in
     let h = s .pre .1 .1 .0 in
     let l : s .args .k < getD (s .args .valences .now) (s .args .p) 0 = omega arith in
-    (L .near, (omega (arith, L .ready .fits), (ring-all-below (L .ready) h (c .before .before .before .before .row-of .result .now) (row-is-ring (s .args .valences .now) (s .args .rings .now) (s .args .p) (s .args .n) (s .pre .1 .1 .1 .0) (c .before .before .before .before .row-of .ensures .0)), (h, omega (arith, c .before .before .before .before .row-of .ensures .1)))))
+    let e = row-is-ring (s .args .valences .now) (s .args .rings .now) (s .args .p) (s .args .n) (s .pre .1 .1 .1 .1 .0) (row .row-of .ensures .0) in
+    let below = ring-all-below (L .ready) h (row .row-of .result .now) e in
+    (L .near, (omega (arith, L .ready .fits), (below, (h, (s .pre .1 .1 .1 .0, omega (arith, row .row-of .ensures .1))))))
 
 add-set-point : tie.Need-add-set-point
 add-set-point c =
@@ -110,7 +115,7 @@ returns-2 c =
     let l : s .args .k < getD (s .args .valences .now) (s .args .p) 0 = omega arith in
     let ring = c .before .before .before .before .before .before .before .before .row-of .result .now in
     let e =
-    row-is-ring (s .args .valences .now) (s .args .rings .now) (s .args .p) (s .args .n) (s .pre .1 .1 .1 .0)
+    row-is-ring (s .args .valences .now) (s .args .rings .now) (s .args .p) (s .args .n) (s .pre .1 .1 .1 .1 .0)
     (c .before .before .before .before .before .before .before .before .row-of .ensures .0) in
     let f = ap (λ (t : List ℕ). getD t (s .args .k) 0) e in
     let g =

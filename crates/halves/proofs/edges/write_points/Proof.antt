@@ -1,18 +1,18 @@
 -- `write_points` meets its contract. Assumes nothing.
 use Prim.Native.Nat.{ℕ, _-_, _≤_}
-use mathlib.Core.Path.{_≡_, refl, subst}
+use mathlib.Core.Path.{_≡_, refl, sym, subst, _∙_}
 use native.Mathlib.Omega.{arith}
 use Rattle.halves.specs.Nearer.{Points, PlacesBelow}
-use Rattle.halves.proofs.PointTargets.{kept-levels, points-join}
+use Rattle.halves.proofs.PointTargets.{kept-point, kept-levels, points-join}
 use Rattle.halves.proofs.Steps.{points-none, no-place, place-more}
 use Rattle.halves.proofs.edges.write_points.Statement.{statement}
 use Rattle.halves.proofs.edges.write_points.Tie as tie
 
 abbrev Inv-loop : tie.InvT-loop
-Inv-loop valences rings positions₀ count p n k₀ positions k = (k ≤ n) × Points count valences rings positions₀ positions (PlacesBelow p k)
+Inv-loop valences rings positions₀ count p here n k₀ positions k = (k ≤ n) × Points count valences rings positions₀ positions (PlacesBelow p k)
 
 abbrev μ-loop : tie.MeasureT-loop
-μ-loop valences rings positions₀ count p n k₀ positions k = n - k
+μ-loop valences rings positions₀ count p here n k₀ positions k = n - k
 
 loop-holds : tie.Need-loop-holds Inv-loop μ-loop
 loop-holds c = let s = c .before .before .args in (omega arith, points-none (s .count) (s .valences .now) (s .rings .now) (s .positions .now) (no-place (s .p)))
@@ -20,7 +20,10 @@ loop-holds c = let s = c .before .before .args in (omega arith, points-none (s .
 write-point-requires : tie.Need-write-point-requires Inv-loop μ-loop
 write-point-requires c κs =
     let s = c .before .before .before .before .before in
-    (kept-levels (s .pre .0) (c .before .before .loop .inv .1 .nearer), (s .pre .1 .0, (s .pre .1 .1 .0, (s .pre .1 .1 .1, c .before .loop-test .taken))))
+    let f = c .before .before .loop .inv .1 .nearer in
+    let h = s .pre .1 .1 .0 in
+    let e = s .pre .1 .1 .1 .0 ∙ sym (kept-point (s .pre .0) f (s .args .p) h) in
+    (kept-levels (s .pre .0) f, (s .pre .1 .0, (h, (e, (s .pre .1 .1 .1 .1, c .before .loop-test .taken)))))
 
 add-k : tie.Need-add-k Inv-loop μ-loop
 add-k c = omega arith

@@ -44,10 +44,15 @@ cast-b c = omega (arith, c .shared-slice-known4 .given (c .before .place-before 
 
 edge-point-of-requires : tie.Need-edge-point-of-requires
 edge-point-of-requires c κs =
-    let s = c .before .before .before .before .before .before in
+    let before = c .before in
+    let after = before .before .before in
+    let s = after .before .before .before in
     let h = s .pre in
     let low = h .1 .1 .0 .below in
-    (h .0, (h .1 .0, (h .1 .1 .1 .0, (low (s .args .i) (h .1 .1 .1 .1), (low (c .before .before .before .place-after .result) (c .before .before .before .place-after .ensures .1), low (c .before .place-before .result) (c .before .place-before .ensures .1))))))
+    let q = low (s .args .i) (h .1 .1 .1 .1 .1) in
+    let a = low (after .place-after .result) (after .place-after .ensures .1) in
+    let b = low (before .place-before .result) (before .place-before .ensures .1) in
+    (h .0, (h .1 .0, (h .1 .1 .1 .1 .0, (h .1 .1 .1 .0, (q, (a, b))))))
 
 returns : tie.Need-returns
 returns c =

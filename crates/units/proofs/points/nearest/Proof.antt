@@ -1,15 +1,23 @@
 -- `points::nearest` meets its contract. Assumes nothing.
-use mathlib.Core.Path.{refl}
 use borrow.Author.Needs.{needs}
-use Rattle.mesh.specs.Round.{roundNat}
+use Rattle.mesh.proofs.Rounding.{roundNat-divided}
 use Rattle.units.proofs.points.nearest.Statement.{statement}
 use Rattle.units.proofs.points.nearest.Tie as tie
+
+div-odd : tie.Need-div-odd
+div-odd c = search needs
 
 mul-result : tie.Need-mul-result
 mul-result c = search needs
 
+sub-result : tie.Need-sub-result
+sub-result c = search needs
+
 add-result : tie.Need-add-result
 add-result c = search needs
+
+add-result-2 : tie.Need-add-result-2
+add-result-2 c = search needs
 
 mul-result-2 : tie.Need-mul-result-2
 mul-result-2 c = search needs
@@ -18,8 +26,7 @@ div-result : tie.Need-div-result
 div-result c = search needs
 
 returns : tie.Need-returns
-unfolding roundNat
-returns c = refl
+returns c = roundNat-divided (c .args .n) (c .args .d) (c .pre .1 .1)
 
 pub nearest-spec : {M : Type 1} → statement M
-nearest-spec = tie.close (tie.spec mul-result add-result mul-result-2 div-result returns)
+nearest-spec = tie.close (tie.spec div-odd mul-result sub-result add-result add-result-2 mul-result-2 div-result returns)
