@@ -39,7 +39,8 @@ use Rattle.cases.specs.Cases.{Cases}
 
 pub cases : Cases
 unfolding firstFrom first some has placeAfter placeBefore next prev follows valences edges faces repeatAt badAt improper lacksAt oneSided openAt openFaced start number rowOf entryOf
-    up mid lowEnd highEnd oldRing newRing refine level roundNat rounded byMask touched touchedCount refined loopMask loop beyond inside unitsOf mmUnit fit settledAt movedTo
+    up mid lowEnd highEnd oldRing newRing refine level roundNat rounded byMask touched touchedCount refined loopMask loop
+    beyond inside unitsOf mmUnit fit settledAt movedTo
     put ringOf rows padded valenceRows ringRows coordinateAt pointRows refuseIf refuseAt andThen after withCounts badCount shortRings shortTables unfitRow beyondAt checkVerdict checkAnswer
     tableVerdict improperRow callVerdict withNeighbour nextAnswer levelStart stackCount shortStack badLevels tooLarge stackedValences stackedRings stackedPositions stackVerdict refineAnswer refinePositions recordOf payloadOf fileOf
     tenth fifth ofBits le add refineValences refineRings levelOf numberIn placed step word mapWords otherThan wanted strange beforeMoves moved applyVerdict touchedAt touchedTotal touchedMap applyAnswer applyMap whole withAmount

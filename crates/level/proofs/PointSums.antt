@@ -75,18 +75,22 @@ module _ {n : ℕ} {ps : List ℤ} (near : Near n ps) {v : ℕ} (l : v < n) wher
   unfolding coordinateAt
   read-z = record { is = refl; near = near .near v l 2 (omega arith) }
 
-  -- the coordinates of v's point, where it was read before
+  -- a coordinate of v's point, where the point was read before
+  here-at : (part : Point → ℤ) (axis : ℕ) → axis < 3 → {here : Point} → here ≡ pointAt ps v → part (pointAt ps v) ≡ coordinateAt ps axis v
+      → Read (coordinateAt ps axis) v (part here)
+  here-at part axis a e f = let g = ap part e ∙ f in record { is = g; near = subst InRange (sym g) (near .near v l axis a) }
+
   pub here-x : {here : Point} → here ≡ pointAt ps v → Read (coordinateAt ps 0) v (here .x)
   unfolding pointAt
-  here-x e = record { is = ap (λ (p : Point). p .x) e; near = subst (λ (p : Point). InRange (p .x)) (sym e) (near .near v l 0 (omega arith)) }
+  here-x e = here-at (λ (p : Point). p .x) 0 (omega arith) e refl
 
   pub here-y : {here : Point} → here ≡ pointAt ps v → Read (coordinateAt ps 1) v (here .y)
   unfolding pointAt
-  here-y e = record { is = ap (λ (p : Point). p .y) e; near = subst (λ (p : Point). InRange (p .y)) (sym e) (near .near v l 1 (omega arith)) }
+  here-y e = here-at (λ (p : Point). p .y) 1 (omega arith) e refl
 
   pub here-z : {here : Point} → here ≡ pointAt ps v → Read (coordinateAt ps 2) v (here .z)
   unfolding pointAt
-  here-z e = record { is = ap (λ (p : Point). p .z) e; near = subst (λ (p : Point). InRange (p .z)) (sym e) (near .near v l 2 (omega arith)) }
+  here-z e = here-at (λ (p : Point). p .z) 2 (omega arith) e refl
 
 -- as a call is handed it
 module _ {at : ℕ → ℤ} {v : ℕ} {z : ℤ} (r : Read at v z) where

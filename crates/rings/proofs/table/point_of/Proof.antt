@@ -13,9 +13,13 @@ use Rattle.rings.specs.Table.{coordinateAt, pointAt}
 use Rattle.rings.proofs.table.point_of.Statement.{statement}
 use Rattle.rings.proofs.table.point_of.Tie as tie
 
+-- a number as it is read
+abbrev got : List ℤ → ℕ → ℤ
+got ps a = toZ w32 (ofZ w32 (getD ps a (pos 0)))
+
 -- a point as it is read
 read : (ps : List ℤ) (v : ℕ) → SFits w32 (getD ps (v * 3) (pos 0)) → SFits w32 (getD ps (v * 3 + 1) (pos 0)) → SFits w32 (getD ps (v * 3 + 2) (pos 0))
-    → record { x = toZ w32 (ofZ w32 (getD ps (v * 3) (pos 0))); y = toZ w32 (ofZ w32 (getD ps (v * 3 + 1) (pos 0))); z = toZ w32 (ofZ w32 (getD ps (v * 3 + 2) (pos 0))) } ≡ pointAt ps v
+    → record { x = got ps (v * 3); y = got ps (v * 3 + 1); z = got ps (v * 3 + 2) } ≡ pointAt ps v
 unfolding pointAt coordinateAt
 read ps v a b c = rw (toZ-ofZ w32 _ a, toZ-ofZ w32 _ b, toZ-ofZ w32 _ c, add-zero)
 
