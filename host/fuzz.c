@@ -4,10 +4,12 @@
  *
  * Held in every round: nothing outside a lent table is touched; tables that are only read stay; a refusal changes
  * nothing and answers no counts; ring edits change one row; what is read can be written back; an accepted move list
- * touches exactly the points that the definition says, leaves the others, and its stack equals a fresh refinement; edits
- * of the mesh keep it sound, change its counts and rows as they should, and a flip can be flipped back. Beside all that,
- * the plain implementation is asked the same on copies of the tables, and must answer and leave the same. */
+ * touches exactly the points that the definition says, leaves the others, and its stack equals a fresh refinement; a
+ * mesh and its mirror image are answered alike, and mirrored lists leave them mirrored; edits of the mesh keep it sound,
+ * change its counts and rows as they should, and a flip can be flipped back. Beside all that, the plain implementation is
+ * asked the same on copies of the tables, and must answer and leave the same. */
 #include "hold.h"
+#include "mirror.h"
 
 /* A number that is often right: below n, n itself, or anything. */
 static size_t around(size_t n) {
@@ -337,6 +339,91 @@ static void try_moves(const control_mesh *m) {
     guard_close(&first), guard_close(&second), guard_close(&third);
 }
 
+/* The mirror image of a control mesh, each ring begun anywhere. */
+static void mirror_image(const control_mesh *m, control_mesh *image) {
+    image->count = m->count;
+    mirror_mesh(m->count, m->valences, m->rings, m->positions, image->valences, image->rings, image->positions);
+    for (size_t v = 0; v < m->count; v++) {
+        uint16_t *ring = image->rings + GT_RING_PLACES * v, was[GT_RING_PLACES];
+        size_t n = image->valences[v], from = n ? below(n) : 0;
+        memcpy(was, ring, sizeof was);
+        for (size_t i = 0; i < n; i++) ring[i] = was[(from + i) % n];
+    }
+}
+
+/* Changes an item of a control mesh, so that a call has something to refuse. */
+static void damage(control_mesh *m) {
+    size_t v = below(m->count), place = below(m->valences[v]);
+    switch (below(3)) {
+    case 0: m->valences[v] = (uint16_t)below(GT_RING_PLACES + 1); break;
+    case 1: m->rings[GT_RING_PLACES * v + place] = (uint16_t)below(m->count + 2); break;
+    default: m->positions[3 * v + below(3)] = GT_GREATEST_COORDINATE + 1;
+    }
+}
+
+enum { LISTS = 3 };
+
+/* What one side of a pair was given, answered and left. */
+typedef struct {
+    gt_counts checked, refined;
+    gt_move moves[LISTS][GT_MOST_MOVES + 1];
+    size_t lengths[LISTS];
+    gt_value touched[LISTS];
+    uint32_t *marks[LISTS];
+    tables after;
+} pair_side;
+
+/* Lends the list of the other side mirrored, or one of this side's own. */
+static void lend_list(pair_side *side, const pair_side *other, size_t k, size_t count) {
+    side->lengths[k] = other ? other->lengths[k] : below(GT_MOST_MOVES + 2);
+    if (!other) lend_moves(count, side->lengths[k], below(2) == 0);
+    for (size_t i = 0; i < side->lengths[k]; i++)
+        side->moves[k][i] = other ? mirror_move(other->moves[k][i]) : ((const gt_move *)moves.begin)[i];
+    if (other) lend(&moves, side->moves[k], side->lengths[k] * sizeof *side->moves[k]);
+}
+
+/* Checks and refines a mesh, and gives it lists where that is accepted. */
+static void play(pair_side *side, const pair_side *other, const control_mesh *m, size_t levels, size_t rows, size_t words) {
+    lend_mesh(m, rows, words);
+    remember_tables();
+    side->checked = call_check(m->count);
+    side->refined = call_refine(m->count, levels);
+    for (size_t k = 0; k < LISTS && side->refined.number == 0; k++) {
+        lend_list(side, other, k, m->count);
+        remember_tables();
+        side->touched[k] = call_moves(m->count, levels, side->lengths[k]);
+        side->marks[k] = copy(&map);
+    }
+    side->after = copies();
+}
+
+/* A mesh and its mirror image, sound or not, and mirrored lists: answered alike, and mirrored afterwards. */
+static void try_pair(const control_mesh *m) {
+    static control_mesh here, there;
+    static pair_side left, right;
+    size_t levels = 1 + below(m->count < 12 ? 3 : 2), counts[5], total = count_levels(m, levels, counts);
+    size_t words = gt_map_words(total);
+    here = *m;
+    if (below(3) == 0) damage(&here);
+    mirror_image(&here, &there);
+    play(&left, NULL, &here, levels, total, words);
+    play(&right, &left, &there, levels, total, words);
+    HOLD(same_answer(&left.checked, &right.checked, sizeof left.checked));
+    HOLD(same_answer(&left.refined, &right.refined, sizeof left.refined));
+    for (size_t k = 0; k < LISTS && left.refined.number == 0; k++) {
+        HOLD(same_answer(&left.touched[k], &right.touched[k], sizeof *left.touched));
+        HOLD(left.touched[k].number || memcmp(left.marks[k], right.marks[k], 4 * words) == 0);
+        free(left.marks[k]), free(right.marks[k]);
+    }
+    const tables *one = &left.after, *other = &right.after;
+    for (size_t v = 0; v < total && left.refined.number == 0; v++) {
+        HOLD(one->valences[v] == other->valences[v]);
+        HOLD(mirror_rings(one->rings + GT_RING_PLACES * v, other->rings + GT_RING_PLACES * v, one->valences[v]));
+        HOLD(mirror_points(one->positions + 3 * v, other->positions + 3 * v));
+    }
+    give_back(*one), give_back(*other);
+}
+
 /* Gives vertices x and y of a level each other's numbers, everywhere in the level. */
 static void exchange(uint16_t *ring, uint16_t *valence, size_t count, size_t x, size_t y) {
     for (size_t i = 0; i < GT_RING_PLACES; i++) {
@@ -588,6 +675,7 @@ int main(int argc, char **argv) {
         random_mesh(&m);
         try_file(&m);
         try_moves(&m);
+        try_pair(&m);
         try_altered(&m);
         try_lengths(&m);
         try_damaged(&m);

@@ -135,11 +135,13 @@ static tables copies(void) {
 
 static int same(const guarded *g, const void *other) { return g->bytes == 0 || memcmp(g->begin, other, g->bytes) == 0; }
 
+static void give_back(tables t) { free(t.valences), free(t.rings), free(t.positions), free(t.map), free(t.bytes); }
+
 /* Compares the tables with the copies in which the twin has worked, and gives these back. */
 static void hold_copies(tables t) {
     HOLD(same(&valences, t.valences) && same(&rings, t.rings) && same(&positions, t.positions));
     HOLD(same(&map, t.map) && same(&bytes, t.bytes));
-    free(t.valences), free(t.rings), free(t.positions), free(t.map), free(t.bytes);
+    give_back(t);
 }
 
 /* Asks the twin and the library the same, and compares what they answer and what they leave. */

@@ -1,12 +1,10 @@
 -- What refinement writes is as refinement gives it: in the tables after an accepted refinement no stack vertex is strange, so that reason 11 is told only of
 -- tables that were altered from outside. Assumes nothing.
-use Prim.Native.Nat.{ℕ, suc, _+_, _*_, _<_}
+use Prim.Native.Nat.{ℕ, suc, _+_, _<_}
 use mathlib.Core.Path.{_≡_, sym, _∙_}
 use mathlib.Core.Bool.{false}
 use mathlib.Core.List.{List}
-use native.Mathlib.Omega.{arith}
 use lib.IntN.{ℤ}
-use lib.ListN.{drop}
 use Rattle.mesh.specs.Search.{first}
 use Rattle.mesh.specs.Mesh.{Mesh, edges}
 use Rattle.mesh.specs.Refine.{level}
@@ -17,8 +15,8 @@ use Rattle.stack_judge.specs.Stack.{levelCount, levelStart}
 use Rattle.stack_judge.specs.StackVerdict.{stackVerdict}
 use Rattle.refine.specs.Refinement.{refineValences, refineRings, refinePositions}
 use Rattle.stack_judge.proofs.AcceptedStack.{stack-only}
-use Rattle.stack_judge.proofs.Sizes.{level-count, start-none}
-use Rattle.refine.proofs.StackIsRefined.{valence-is-refined, ring-is-refined, level-is-refined}
+use Rattle.stack_judge.proofs.Sizes.{level-count}
+use Rattle.refine.proofs.StackIsRefined.{valence-is-refined, ring-is-refined, control-stays}
 use Rattle.refine.proofs.StackStaysInHull.{stack-stays-in-range}
 use Rattle.strange.specs.Expected.{whole, strange}
 use Rattle.strange.proofs.Strange.{not-other}
@@ -40,11 +38,8 @@ module _ (n levels : ℕ) (vs rs : List ℕ) (ps : List ℤ) (accepted : Accepte
   abbrev ps′ : List ℤ
   ps′ = refinePositions n levels vs rs ps
 
-  control-stays : rows n vs′ rs′ ≡ M
-  unfolding level rows
-  control-stays =
-      let h : rows n (drop (levelStart n (edges M) 0) vs′) (drop (levelStart n (edges M) 0 * 32) rs′) ≡ M = level-is-refined n levels vs rs ps accepted 0 (omega arith) in
-      rw (start-none n (edges M)) at h
+  stays : rows n vs′ rs′ ≡ M
+  stays = control-stays n levels vs rs ps accepted
 
   module _ (k x : ℕ) (l : k < levels) (h : x < levelCount n (edges M) (suc k)) where
     there : x < level M (suc k) .count
@@ -56,8 +51,8 @@ module _ (n levels : ℕ) (vs rs : List ℕ) (ps : List ℤ) (accepted : Accepte
 
     vertex-is-not-strange : strange n levels vs′ rs′ ps′ (levelStart n (edges (rows n vs′ rs′)) (suc k) + x) ≡ false
     vertex-is-not-strange =
-        strange-is n levels vs′ rs′ ps′ k x l (rw control-stays h)
-        ∙ rw control-stays
+        strange-is n levels vs′ rs′ ps′ k x l (rw stays h)
+        ∙ rw stays
         (not-other (level M (suc k) .ring x) vs′ rs′ ps′ (levelStart n (edges M) (suc k) + x)
         (valence-is-refined n levels vs rs ps accepted (suc k) x l there)
         (ring-is-refined n levels vs rs ps accepted (suc k) x l there)
@@ -65,4 +60,4 @@ module _ (n levels : ℕ) (vs rs : List ℕ) (ps : List ℤ) (accepted : Accepte
 
   pub refined-is-not-strange : whole n levels vs′ rs′ ps′ ≡ first (strange n levels vs′ rs′ ps′) (whole n levels vs′ rs′ ps′)
   unfolding whole
-  refined-is-not-strange = clear-all (clear-stack n levels vs′ rs′ ps′ (λ k x l h. vertex-is-not-strange k x l (rw control-stays at h)))
+  refined-is-not-strange = clear-all (clear-stack n levels vs′ rs′ ps′ (λ k x l h. vertex-is-not-strange k x l (rw stays at h)))

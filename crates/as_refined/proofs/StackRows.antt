@@ -1,6 +1,6 @@
 -- Rows of a stack: a row of a part is a row of the stack, and what is wanted of vertex x of level k. Assumes nothing.
 use Prim.Native.Nat.{ℕ, zero, suc, _+_, _*_, _≤_, _<_}
-use mathlib.Core.Path.{_≡_, sym, ap, ap₂, _∙_}
+use mathlib.Core.Path.{_≡_, ap₂}
 use mathlib.Core.Bool.{false}
 use mathlib.Core.List.{List}
 use native.Mathlib.Omega.{arith}
@@ -13,10 +13,10 @@ use Rattle.mesh.specs.Refine.{level}
 use Rattle.mesh.proofs.First.{Clear}
 use Rattle.rings.specs.Table.{rows}
 use Rattle.rings.specs.Check.{beyondAt}
-use Rattle.stack_judge.specs.Stack.{levelCount, levelStart, stackCount, levelOf, numberIn}
+use Rattle.stack_judge.specs.Stack.{levelCount, levelStart, stackCount}
 use Rattle.stack_judge.proofs.Sizes.{start-none, start-suc}
 use Rattle.refine.proofs.StackLevels.{ring-part, point-part}
-use Rattle.stack_judge.proofs.StackVertices.{starts-climb, stack-vertex, level-of, number-in}
+use Rattle.stack_judge.proofs.StackVertices.{starts-climb, by-levels, level-of, number-in}
 use Rattle.strange.specs.Expected.{otherThan, wanted, strange}
 
 beyond-part : (ps : List ℤ) (b x : ℕ) → beyondAt (drop (b * 3) ps) x ≡ beyondAt ps (b + x)
@@ -53,12 +53,8 @@ module _ (n levels : ℕ) (vs rs : List ℕ) (ps : List ℤ) (k x : ℕ) (l : k 
 pub clear-stack : (n levels : ℕ) (vs rs : List ℕ) (ps : List ℤ)
     → ((k x : ℕ) → k < levels → x < levelCount n (edges (rows n vs rs)) (suc k) → strange n levels vs rs ps (levelStart n (edges (rows n vs rs)) (suc k) + x) ≡ false)
     → Clear (strange n levels vs rs ps) (stackCount n (edges (rows n vs rs)) levels)
-clear-stack n levels vs rs ps all = record {
-  below = λ j h.
-      let s = stack-vertex n (edges (rows n vs rs)) levels j h in
-      go (levelOf n (edges (rows n vs rs)) levels j) (numberIn n (edges (rows n vs rs)) levels j) j (s .0) (s .1 .0) (s .1 .1);
-}
+clear-stack n levels vs rs ps all = record { below = by-levels n (edges (rows n vs rs)) levels (λ j. strange n levels vs rs ps j ≡ false) each }
   where
-    go : (k x j : ℕ) → k ≤ levels → levelStart n (edges (rows n vs rs)) k + x ≡ j → x < levelCount n (edges (rows n vs rs)) k → strange n levels vs rs ps j ≡ false
-    go zero x j l e h = control-clear n levels vs rs ps .below j (omega (arith, start-none n (edges (rows n vs rs))))
-    go (suc k) x j l e h = ap (strange n levels vs rs ps) (sym e) ∙ all k x l h
+    each : (k x : ℕ) → k ≤ levels → x < levelCount n (edges (rows n vs rs)) k → strange n levels vs rs ps (levelStart n (edges (rows n vs rs)) k + x) ≡ false
+    each zero x l h = control-clear n levels vs rs ps .below _ (omega (arith, start-none n (edges (rows n vs rs))))
+    each (suc k) x l h = all k x l h

@@ -17,9 +17,9 @@ use lib.Dec.{ltb}
 use mathlib.Core.Bool.{_&&_}
 use mathlib.Core.List.{[], _∷_}
 use Rattle.mesh.specs.Search.{bit, sum}
-use Rattle.mesh.proofs.Lists.{eq-split, lt-split, sum-zero}
+use Rattle.mesh.proofs.Lists.{eq-split, lt-split, sum-same, sum-zero}
 use Rattle.rings.specs.Table.{put}
-use Rattle.rings.proofs.Tables.{length-gather, gather-at, length-put, put-within, put-behind}
+use Rattle.rings.proofs.Tables.{length-gather, gather-at, gather-same, length-put, put-within, put-behind}
 use Rattle.map.specs.Map.{bitOf, marked, wordCount, word, mapWords, members, onesIn, including, emptied, NoneFrom, Words}
 use Rattle.map.proofs.Bits.{bit-low, bit-suc, sum-lt, bit-sum, bits-ext, members-same, members-add, ones-bits, bit-none, bit-set-here, bit-set-else}
 
@@ -176,6 +176,15 @@ words-ext a b ha hb e h =
     ext-getD 0 a b e (λ w p. bits-ext 32 (getD a w 0) (getD b w 0) (ha .small w) (hb .small w)
     (λ k q. sym (marked-at a w k q) ∙ h (w * 32 + k) ∙ marked-at b w k q))
 
+-- sets that agree below n have the same map
+pub words-same : (s t : ℕ → Bool) (n : ℕ) → ((i : ℕ) → i < n → s i ≡ t i) → mapWords s n ≡ mapWords t n
+unfolding mapWords word
+words-same s t n same =
+    gather-same _ _ (wordCount n) (λ w l. ap (λ x. x ∷ []) (sum-same _ _ 32 (λ b h. ap (λ (x : Bool). bit x * 2 ^ b) (inside (w * 32 + b)))))
+  where
+    inside : (i : ℕ) → (ltb i n && s i) ≡ (ltb i n && t i)
+    inside i = ⊎-elim (λ l. ap (λ x. ltb i n && x) (same i (l .1))) (λ l. rw (l .0)) (lt-split i n)
+
 module _ (s : ℕ → Bool) (total : ℕ) (old : List ℕ) (room : wordCount total ≤ length old) where
   pub length-words : length (mapWords s total) ≡ wordCount total
   unfolding mapWords
@@ -187,7 +196,7 @@ module _ (s : ℕ → Bool) (total : ℕ) (old : List ℕ) (room : wordCount tot
   pub length-after : length (put old 0 (mapWords s total)) ≡ length old
   length-after = length-put old 0 (mapWords s total) fits
 
-  after-first : (w : ℕ) → w < wordCount total → getD (put old 0 (mapWords s total)) w 0 ≡ word s total w
+  pub after-first : (w : ℕ) → w < wordCount total → getD (put old 0 (mapWords s total)) w 0 ≡ word s total w
   unfolding mapWords
   after-first w p =
       let h = length-words in

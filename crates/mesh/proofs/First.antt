@@ -113,6 +113,28 @@ or-false false b e = (refl, e)
 pub or-both : (a b : Bool) → a ≡ false → b ≡ false → a || b ≡ false
 or-both a b p q = rw (p, q)
 
+pub or-swap : (a b c : Bool) → a || (b || c) ≡ b || (a || c)
+or-swap true true c = refl
+or-swap true false c = refl
+or-swap false b c = refl
+
+pub or-comm : (a b : Bool) → a || b ≡ b || a
+or-comm true true = refl
+or-comm true false = refl
+or-comm false true = refl
+or-comm false false = refl
+
+-- tests that hold alike, or fail alike
+pub same-tests : (a b : Bool) → (a ≡ true → b ≡ true) → (b ≡ true → a ≡ true) → a ≡ b
+same-tests true b f g = sym (f refl)
+same-tests false true f g = g refl
+same-tests false false f g = refl
+
+pub same-failures : (a b : Bool) → (a ≡ false → b ≡ false) → (b ≡ false → a ≡ false) → a ≡ b
+same-failures false b f g = sym (f refl)
+same-failures true true f g = refl
+same-failures true false f g = g refl
+
 pub by-cases : (b : Bool) → (b ≡ true → ⊥) → b ≡ false
 by-cases true h = absurd (h refl)
 by-cases false h = refl
@@ -120,3 +142,11 @@ by-cases false h = refl
 -- no number passes
 pub none-some : (p : ℕ → Bool) (n : ℕ) → ((k : ℕ) → k < n → p k ≡ false) → some p n ≡ false
 none-some p n h = by-cases (some p n) (λ e. let k = some-at p n e in true-not-false (k .1) (h (first p n) (k .0)))
+
+-- tests that agree below n find the same number first
+pub first-same : (p q : ℕ → Bool) (n : ℕ) → ((k : ℕ) → k < n → p k ≡ q k) → first p n ≡ first q n
+first-same p q n same =
+    let i : ℕ = first p n in
+    let l : i ≤ n = first-le p n in
+    let c : Clear q i = record { below = λ k h. sym (same k (omega arith)) ∙ first-clear p n .below k h } in
+    ⊎-elim (λ e. first-end c l (omega arith)) (λ h. first-is c h (sym (same i h) ∙ first-at p n h)) (eq-or-lt-of-le l)

@@ -34,3 +34,5 @@ pub mod EditPlaces
 pub mod EditedEntries
 pub mod OpenedRings
 pub mod Neighbours
+pub mod Shuffled
+pub mod SameRounds

@@ -9,7 +9,7 @@ use Rattle.mesh.specs.Search.{bit}
 use Rattle.mesh.specs.Mask.{Term, anySource, SourcesBelow, Steps, Grounded, touched, touchedCount}
 use Rattle.mesh.proofs.Lists.{sum-same, sum-zero}
 
-any-same : (n : ℕ) (hit hit′ : ℕ → Bool) → ((v : ℕ) → v < n → hit v ≡ hit′ v) → (ts : List Term) → SourcesBelow n ts → anySource hit ts ≡ anySource hit′ ts
+pub any-same : (n : ℕ) (hit hit′ : ℕ → Bool) → ((v : ℕ) → v < n → hit v ≡ hit′ v) → (ts : List Term) → SourcesBelow n ts → anySource hit ts ≡ anySource hit′ ts
 any-same n hit hit′ same [] b = refl
 any-same n hit hit′ same (t ∷ ts) b = rw (same (t .source) (b .0), any-same n hit hit′ same ts (b .1))
 

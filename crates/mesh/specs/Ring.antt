@@ -1,11 +1,12 @@
--- Rings as circular lists (document 01, "Ring rules"): places, absence, and what follows and precedes an entry.
+-- Rings as circular lists (document 01, "Ring rules"): places, absence, what follows and precedes an entry, and rings that are
+-- the same up to where they begin.
 -- Assumes nothing.
 use mathlib.Core.Path.{_≡_}
 use mathlib.Core.Bool.{Bool, cond, _&&_}
-use mathlib.Core.List.{List, [], _∷_}
+use mathlib.Core.List.{List, [], _∷_, _++_}
 use Prim.Native.Nat.{ℕ, suc, _+_, _-_, _≤_, _<_}
 use lib.Dec.{eqb, ltb}
-use lib.ListN.{length, getD}
+use lib.ListN.{length, getD, take, drop}
 use Rattle.mesh.specs.Search.{bit}
 use Rattle.mesh.specs.declared.Place.{Place}
 use Rattle.mesh.specs.declared.Place.the-variants.{At, Absent}
@@ -60,3 +61,9 @@ Follows l x y = (x ∈ l) × (next l x ≡ y)
 -- the same as a test
 unfoldable pub follows : List ℕ → ℕ → ℕ → Bool
 follows l x y = has x l && eqb (next l x) y
+
+-- m is l read from one of its places on, and round
+pub record SameRound (l m : List ℕ) : Type 0 where
+  pub start : ℕ
+  pub within : start ≤ length l
+  pub turned : m ≡ drop start l ++ take start l

@@ -1,50 +1,32 @@
 -- Refinement reads the valences, the used places and the points of the control mesh, and the lengths of the tables, and nothing else: where these agree,
 -- the verdict and the answer are the same, and so is every row of every level of an accepted stack. Unused places, and what stood behind level 0, are never read.
 -- Assumes nothing.
-use mathlib.Core.Path.{_≡_, sym, ap, subst, _∙_}
-use mathlib.Core.Bool.{Bool}
+use mathlib.Core.Path.{_≡_, refl, sym, ap, subst, _∙_}
 use mathlib.Core.List.{List}
-use mathlib.Core.Logic.{⊎-elim}
 use Prim.Native.Nat.{ℕ, _+_, _≤_, _<_}
 use native.Mathlib.Omega.{arith}
 use lib.IntN.{ℤ}
 use lib.ListN.{length, getD}
-use Rattle.mesh.specs.Search.{first, some}
 use Rattle.mesh.specs.Mesh.{Mesh, Sound, edges}
 use Rattle.mesh.specs.Tests.{oneSided, openFaced}
 use Rattle.mesh.specs.Refine.{level}
 use Rattle.mesh.specs.Mask.{refined}
 use Rattle.mesh.specs.Loop.{loop}
-use Rattle.mesh.proofs.First.{Clear, first-le, first-clear, first-at, first-is, first-end}
 use Rattle.mesh.proofs.Levels.{loop-grounded}
-use Rattle.mesh.proofs.Lists.{lt-split}
 use Rattle.mesh.proofs.Refined.{mesh-same}
 use Rattle.mesh.proofs.Refresh.{refined-same}
 use Rattle.rings.specs.Table.{ringOf, rows, coordinateAt}
 use Rattle.rings.specs.Check.{shortRings, shortTables, improperRow, unfitRow, beyondAt, checkVerdict}
 use Rattle.rings.specs.Verdict.{refuseAt}
-use Rattle.rings.specs.declared.Refusal.{Refusal}
 use Rattle.rings.specs.declared.Refusal.the-variants.{ImproperRing, OneSided, OpenFace, TooFar}
 use Rattle.rings.specs.declared.Verdict.{Verdict}
 use Rattle.rings.specs.declared.Verdict.the-variants.{Accepted}
+use Rattle.rings.proofs.Verdicts.{at-same}
 use Rattle.stack_judge.specs.Stack.{levelStart, stackCount, shortStack}
 use Rattle.stack_judge.specs.StackVerdict.{stackVerdict}
 use Rattle.refine.specs.Refinement.{refineAnswer, refineValences, refineRings, refinePositions}
 use Rattle.stack_judge.proofs.AcceptedStack.{stack-only}
 use Rattle.refine.proofs.StackIsRefined.{valence-is-refined, ring-is-refined, point-is-refined}
-
--- ---- tests that agree
-
-first-same : (p q : ℕ → Bool) (n : ℕ) → ((k : ℕ) → k < n → p k ≡ q k) → first p n ≡ first q n
-first-same p q n same =
-    let i : ℕ = first p n in
-    let l : i ≤ n = first-le p n in
-    let c : Clear q i = record { below = λ k h. sym (same k (omega arith)) ∙ first-clear p n .below k h } in
-    ⊎-elim (λ h. first-is c (h .1) (sym (same i (h .1)) ∙ first-at p n (h .1))) (λ h. first-end c l (h .1)) (lt-split i n)
-
-at-same : (p q : ℕ → Bool) (n : ℕ) (reason : ℕ → Refusal) (rest : Verdict) → ((k : ℕ) → k < n → p k ≡ q k) → refuseAt p n reason rest ≡ refuseAt q n reason rest
-unfolding refuseAt some
-at-same p q n reason rest same = rw (first-same p q n same)
 
 -- ---- two inputs with the same control mesh, and tables of the same lengths
 
@@ -76,11 +58,13 @@ module _ (n levels : ℕ) (vs rs : List ℕ) (ps : List ℤ) (vs′ rs′ : List
   same-check : checkVerdict n vs rs ps ≡ checkVerdict n vs′ rs′ ps′
   unfolding checkVerdict
   same-check =
+      let behind : Verdict =
+      refuseAt (oneSided (rows n vs rs)) n OneSided (refuseAt (openFaced (rows n vs rs)) n OpenFace (refuseAt (beyondAt ps) n TooFar Accepted)) in
       rw (
         same-short,
-        at-same (unfitRow n vs rs) (unfitRow n vs′ rs′) n ImproperRing (refuseAt (oneSided (rows n vs rs)) n OneSided (refuseAt (openFaced (rows n vs rs)) n OpenFace (refuseAt (beyondAt ps) n TooFar Accepted))) same-unfit,
+        at-same (unfitRow n vs rs) (unfitRow n vs′ rs′) n ImproperRing behind behind same-unfit (λ c. refl),
         same-mesh,
-        at-same (beyondAt ps) (beyondAt ps′) n TooFar Accepted same-beyond,
+        at-same (beyondAt ps) (beyondAt ps′) n TooFar Accepted Accepted same-beyond (λ c. refl),
       )
 
   same-room : (c : ℕ) → shortStack c vs rs ps ≡ shortStack c vs′ rs′ ps′

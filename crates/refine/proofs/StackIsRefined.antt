@@ -20,6 +20,7 @@ use Rattle.stack_judge.specs.Accepts.{AcceptsStack}
 use Rattle.stack_judge.specs.StackVerdict.{stackVerdict}
 use Rattle.refine.specs.Refinement.{stackedValences, stackedRings, stackedPositions, refineValences, refineRings, refinePositions}
 use Rattle.stack_judge.proofs.AcceptedStack.{stack-only}
+use Rattle.stack_judge.proofs.Sizes.{start-none}
 use Rattle.refine.proofs.RefineAnswers.{accepted-valences, accepted-rings, accepted-positions}
 use Rattle.refine.proofs.StackLevels as T
 
@@ -80,6 +81,13 @@ module _ (n levels : ℕ) (vs rs : List ℕ) (ps : List ℤ) (accepted : Accepte
 
   pub level-is-refined : (k : ℕ) → k ≤ levels → at-level k ≡ level M k
   level-is-refined k l = rw (valences-are, rings-are, begins k) (T.level-part n levels vs rs ps a levels (omega arith) k l)
+
+  -- the control mesh stays
+  pub control-stays : rows n after-valences after-rings ≡ M
+  unfolding level rows
+  control-stays =
+      let h : rows n (drop (start 0) after-valences) (drop (start 0 * 32) after-rings) ≡ M = level-is-refined 0 (omega arith) in
+      rw (start-none n (edges M)) at h
 
   pub every-level-is-sound : (k : ℕ) → k ≤ levels → Sound (at-level k)
   every-level-is-sound k l = subst Sound (sym (level-is-refined k l)) (K.every-level-is-sound M S k)

@@ -2,14 +2,14 @@
 -- against the edit, the edit is the same, and the new vertex lies at the same mean.
 -- Assumes nothing.
 use mathlib.Core.Path.{_≡_, refl, sym, ap, ap₂, _∙_}
-use mathlib.Core.Bool.{Bool, true, false, not, _||_}
-use mathlib.Core.List.{List, [], _∷_, _++_, map}
+use mathlib.Core.Bool.{Bool, false, not, _||_}
+use mathlib.Core.List.{List, [], _∷_, _++_, map, List·Permᴰ·append-comm}
 use mathlib.Core.Logic.{⊎-elim, _≢_}
 use Prim.Native.Nat.{ℕ, suc, _≤_, _<_, min}
 use native.Mathlib.Nat.{min-comm, max-comm}
 use native.Mathlib.Omega.{arith}
 use lib.Dec.{leb}
-use lib.IntN.{ℤ, _+ℤ_, _*ℤ_, +ℤ-assoc, +ℤ-comm}
+use lib.IntN.{ℤ}
 use lib.ListN.{length}
 use borrow.Author.Tests.{lt-ltb, le-ltb}
 use Rattle.mesh.specs.Limits.{leastValence}
@@ -19,6 +19,8 @@ use Rattle.mesh.specs.Round.{rounded}
 use Rattle.mesh.specs.Mask.{weighted, byMask}
 use Rattle.mesh.specs.Loop.{term}
 use Rattle.mesh.proofs.Lists.{lt-split}
+use Rattle.mesh.proofs.First.{or-comm, or-swap, same-tests}
+use Rattle.mesh.proofs.Shuffled.{map-shuffled, weighted-shuffled}
 use Rattle.mesh.proofs.Places.{has-in, in-has, follows-true, true-follows}
 use Rattle.mesh.proofs.Refined.{Face, prev-next, mesh-same}
 use Rattle.reshape.specs.Rows.{Row, ringBy, rewritten}
@@ -30,36 +32,11 @@ use Rattle.reshape.proofs.EdgeFlip as F
 use Rattle.reshape.proofs.FaceSplit as T
 use Rattle.reshape.proofs.ReshapingKeepsSoundness.{edge-there, face-there}
 
--- ---- tests that say the same
-
-same-tests : (a b : Bool) → (a ≡ true → b ≡ true) → (b ≡ true → a ≡ true) → a ≡ b
-same-tests true b f g = sym (f refl)
-same-tests false true f g = g refl
-same-tests false false f g = refl
-
-pub or-swap : (a b c : Bool) → a || (b || c) ≡ b || (a || c)
-or-swap true true c = refl
-or-swap true false c = refl
-or-swap false b c = refl
-
-pub or-comm : (a b : Bool) → a || b ≡ b || a
-or-comm true true = refl
-or-comm true false = refl
-or-comm false true = refl
-or-comm false false = refl
-
 -- ---- the mean of a list turned by one
 
 module _ (at : ℕ → ℤ) (v : ℕ) where
   turned-sum : (l : List ℕ) → weighted (map (term 1) (l ++ (v ∷ []))) at ≡ weighted (map (term 1) (v ∷ l)) at
-  turned-sum [] = refl
-  turned-sum (a ∷ l) =
-      let of : List ℕ → ℤ = λ t. weighted (map (term 1) t) at in
-      let one : ℕ → ℤ = λ u. term 1 u .weight *ℤ at u in
-      ap (λ s. one a +ℤ s) (turned-sum l)
-      ∙ sym (+ℤ-assoc (one a) (one v) (of l))
-      ∙ ap (λ s. s +ℤ of l) (+ℤ-comm (one a) (one v))
-      ∙ +ℤ-assoc (one v) (one a) (of l)
+  turned-sum l = weighted-shuffled at (map-shuffled (term 1) (List·Permᴰ·append-comm l (v ∷ [])))
 
   turned-long : (l : List ℕ) → length (l ++ (v ∷ [])) ≡ suc (length l)
   turned-long [] = refl

@@ -8,20 +8,20 @@ use native.Mathlib.Omega.{arith}
 use lib.ListN.{length}
 use borrow.Author.Tests.{lt-leb}
 use Rattle.mesh.specs.Limits.{leastValence, mostValence}
-use Rattle.mesh.specs.Ring.{_∈_, has, next, prev}
+use Rattle.mesh.specs.Ring.{_∈_, has, next, prev, SameRound}
 use Rattle.mesh.specs.Edits.{erase, insertAfter}
 use Rattle.mesh.specs.Mesh.{Mesh, Sound}
 use Rattle.mesh.proofs.First.{or-both, by-cases}
 use Rattle.mesh.proofs.Places.{has-in, in-has}
 use Rattle.mesh.proofs.Refined.{prev-next}
 use Rattle.mesh.proofs.EditedEntries as X
+use Rattle.mesh.proofs.SameRounds.{same-round}
 use Rattle.reshape.specs.Rows.{rewritten}
 use Rattle.reshape.specs.Reshape.{flipRows, noEdge, full, fullBeside, cannotFlip}
-use Rattle.reshape.specs.Round.{SameRound}
 use Rattle.reshape.proofs.Triangles.{at-each}
 use Rattle.reshape.proofs.Kites.{Kite}
 use Rattle.reshape.proofs.EdgeFlip as F
-use Rattle.reshape.proofs.Rounds.{same-round, erase-inserted, insert-erased}
+use Rattle.reshape.proofs.Rounds.{erase-inserted, insert-erased}
 
 -- in N nothing stands against flipping the edge a, b, and that gives the rings of M
 pub record Undone (M N : Mesh) (a b : ℕ) : Type 0 where

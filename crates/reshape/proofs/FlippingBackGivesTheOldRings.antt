@@ -7,9 +7,9 @@ use mathlib.Core.Logic.{⊎-elim}
 use Prim.Native.Nat.{ℕ, _<_, min, max}
 use native.Mathlib.Nat.{min-eq-left, min-eq-right, max-eq-left, max-eq-right}
 use native.Mathlib.Omega.{arith}
+use Rattle.mesh.specs.Ring.{SameRound}
 use Rattle.mesh.specs.Mesh.{Mesh, Sound}
 use Rattle.mesh.proofs.Lists.{lt-split}
-use Rattle.reshape.specs.Round.{SameRound}
 use Rattle.reshape.specs.Reshape.{beyond, behind, flipRows, flip, noEdge, fullBeside, cannotFlip}
 use Rattle.reshape.proofs.Kites.{Kite, kite-at, other-end}
 use Rattle.reshape.proofs.FlipBack.{Undone, undone}

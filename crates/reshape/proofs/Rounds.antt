@@ -2,14 +2,14 @@
 -- the ring up to where it begins.
 -- Assumes nothing.
 use mathlib.Core.Path.{_≡_, refl, sym, ap, _∙_, subst}
-use mathlib.Core.List.{List, [], _∷_, _++_, append-nil}
+use mathlib.Core.List.{List, [], _∷_, _++_}
 use mathlib.Core.Logic.{⊎-elim, _≢_}
 use Prim.Native.Nat.{ℕ, suc, _-_, _≤_, _<_}
 use native.Mathlib.Nat.{not-suc-le-zero}
 use native.Mathlib.Omega.{arith}
 use lib.ListN.{length, getD}
 use borrow.Author.Tests.{eq-eqb}
-use Rattle.mesh.specs.Ring.{_∈_, Distinct, place, prev, Follows}
+use Rattle.mesh.specs.Ring.{_∈_, Distinct, place, prev, Follows, SameRound}
 use Rattle.mesh.specs.Edits.{closed, opened, erase, insertAfter}
 use Rattle.mesh.proofs.Lists.{eq-split, here, distinct-tail}
 use Rattle.mesh.proofs.Rings.{in-cons, next-in, place-lt, getD-place, place-getD, getD-in}
@@ -17,10 +17,7 @@ use Rattle.mesh.proofs.RingsGoRound.{prev-inner, prev-of-first, prev-is-what-it
 use Rattle.mesh.proofs.EditPlaces.{opened-length, opened-at, opened-closed, closed-opened, closed-length, closed-before}
 use Rattle.mesh.proofs.OpenedRings.{opened-distinct}
 use Rattle.mesh.proofs.EditedEntries as X
-use Rattle.reshape.specs.Round.{SameRound}
-
-pub same-round : (l m : List ℕ) → m ≡ l → SameRound l m
-same-round l m e = record { start = 0; within = omega arith; turned = e ∙ sym (append-nil l) }
+use Rattle.mesh.proofs.SameRounds.{same-round}
 
 opened-end : (l : List ℕ) (x : ℕ) → opened l (length l) x ≡ l ++ (x ∷ [])
 unfolding opened

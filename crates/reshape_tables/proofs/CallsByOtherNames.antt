@@ -10,6 +10,7 @@ use lib.IntN.{ℤ}
 use borrow.Author.Tests.{leb-false}
 use Rattle.mesh.proofs.First.{or-false}
 use Rattle.mesh.specs.Mesh.{Sound}
+use Rattle.mesh.proofs.First.{or-comm, or-swap}
 use Rattle.rings.specs.Table.{rows}
 use Rattle.rings.specs.Verdict.{refuseIf, andThen}
 use Rattle.rings.specs.Check.{checkVerdict}
@@ -18,7 +19,7 @@ use Rattle.rings.specs.declared.Verdict.{Verdict}
 use Rattle.rings.specs.declared.Verdict.the-variants.{Accepted, Refused}
 use Rattle.rings.proofs.Accepted.{accepted-only}
 use Rattle.reshape.specs.Reshape.{splitEdge, splitFace, flip, noFace, fullCorner}
-use Rattle.reshape.proofs.EitherEnd.{or-comm, or-swap, no-face-from-any-corner, full-corner-from-any-corner, corners-from-any-corner}
+use Rattle.reshape.proofs.EitherEnd.{no-face-from-any-corner, full-corner-from-any-corner, corners-from-any-corner}
 use Rattle.reshape_tables.specs.Calls.{edgeVerdict, faceVerdict, turnVerdict, newVerdict}
 use Rattle.reshape_tables.specs.Calls.{splitEdgeVerdict, splitFaceVerdict, flipVerdict, edgeSplitting, faceSplitting, edgeFlipping}
 use Rattle.reshape_tables.proofs.Judged.{face-split-judged}

@@ -6,13 +6,13 @@ use Prim.Native.Nat.{ℕ, _<_, min, max}
 use native.Mathlib.Omega.{arith}
 use lib.IntN.{ℤ}
 use borrow.Author.Tests.{lt-leb}
+use Rattle.mesh.specs.Ring.{SameRound}
 use Rattle.mesh.specs.Mesh.{Mesh}
 use Rattle.rings.specs.Table.{rows}
 use Rattle.rings.specs.Verdict.{refuseIf, andThen}
 use Rattle.rings.specs.declared.Verdict.the-variants.{Accepted}
 use Rattle.reshape.specs.Reshape.{beyond, behind, flip}
 use Rattle.reshape.specs.Rows.{rewritten}
-use Rattle.reshape.specs.Round.{SameRound}
 use Rattle.reshape.proofs.FlipBack.{Undone}
 use Rattle.reshape.proofs.FlippingBackGivesTheOldRings.{may-be-flipped-back, flipping-back}
 use Rattle.reshape_tables.specs.Calls.{edgeVerdict, turnVerdict, flipVerdict, edgeFlipping, reshapedValences, reshapedRings}

@@ -1,6 +1,6 @@
 -- Stack vertices by level and number: vertex x of level k is stack vertex `levelStart k + x`, and back, `levelOf` and `numberIn` tell k and x.
 -- Assumes nothing.
-use mathlib.Core.Path.{_≡_, ap}
+use mathlib.Core.Path.{_≡_, ap, subst}
 use Prim.Native.Nat.{ℕ, suc, _+_, _≤_, _<_}
 use native.Mathlib.Omega.{arith}
 use Rattle.mesh.specs.Search.{find}
@@ -32,6 +32,10 @@ module _ (v e : ℕ) where
         let z : levelStart v e k ≤ j = s .1 in
         let y : j < levelStart v e (suc k) = s .2 in
         (omega arith, (omega arith, omega (arith, start-suc v e k)))
+
+    -- so what holds of every vertex of every level holds of every stack vertex
+    pub by-levels : (Q : ℕ → Type 0) → ((k x : ℕ) → k ≤ levels → x < levelCount v e k → Q (levelStart v e k + x)) → (j : ℕ) → j < stackCount v e levels → Q j
+    by-levels Q each j l = let s = stack-vertex j l in subst Q (s .1 .0) (each (levelOf v e levels j) (numberIn v e levels j) (s .0) (s .1 .1))
 
     module _ (k x : ℕ) (l : k ≤ levels) (h : x < levelCount v e k) where
       pub level-of : levelOf v e levels (levelStart v e k + x) ≡ k

@@ -1,0 +1,1 @@
+// Definitions and theorems only: the mirrored mesh and the mirrored move. See specs/ and proofs/.

@@ -1,0 +1,121 @@
+-- A pair is mirrored at every vertex of the stack (document 02, order 3): at every level each point lies opposite the point of the same
+-- number, and each ring is the other's reversed, up to where it begins.
+-- Assumes nothing.
+use mathlib.Core.Path.{_≡_, sym, ap, _∙_}
+use mathlib.Core.List.{List, reverse}
+use Prim.Native.Nat.{ℕ, suc, _+_, _≤_, _<_}
+use lib.Dec.{lit<}
+use lib.IntN.{ℤ, negℤ}
+use lib.ListN.{length, getD}
+use Rattle.mesh.specs.Ring.{SameRound}
+use Rattle.mesh.specs.Mesh.{Mesh, Sound, edges}
+use Rattle.mesh.specs.Refine.{level}
+use Rattle.mesh.specs.Mask.{refined}
+use Rattle.mesh.specs.Loop.{loop}
+use Rattle.mesh.proofs.Levels.{loop-grounded}
+use Rattle.mesh.proofs.Refresh.{refined-same}
+use Rattle.mirror.specs.Mirror.{Mirrored}
+use Rattle.mirror.proofs.Mirrorings.{length-mirrored}
+use Rattle.mirror.proofs.MirroredMeshIsSound as sound
+use Rattle.mirror.proofs.EveryLevelIsMirrored.{every-level-is-mirrored, y-and-z-stay, x-is-negated}
+use Rattle.rings.specs.Table.{ringOf, rows, coordinateAt}
+use Rattle.stack_judge.specs.Stack.{levelStart}
+use Rattle.strange.specs.Expected.{whole}
+use Rattle.pair.specs.Pair.{MirroredTables, Pair}
+use Rattle.pair.proofs.MirroredTablesAreJudgedAlike.{control-mirrored}
+use Rattle.pair.proofs.TrueStacks.{by-control}
+
+module _ (n levels : ℕ) (vs rs : List ℕ) (ps : List ℤ) (vs′ rs′ : List ℕ) (ps′ : List ℤ) (P : Pair n levels vs rs ps vs′ rs′ ps′) where
+  abbrev M : Mesh
+  M = rows n vs rs
+
+  abbrev N : Mesh
+  N = rows n vs′ rs′
+
+  -- where level k begins, on both sides
+  abbrev start : ℕ → ℕ
+  start k = levelStart n (edges M) k
+
+  S : Sound M
+  S = P .left .sound
+
+  R : Mirrored M N
+  R = control-mirrored n vs rs ps vs′ rs′ ps′ (P .controls)
+
+  pub same-edges : edges N ≡ edges M
+  same-edges = sound.same-edges M N R
+
+  pub levels-mirrored : (k : ℕ) → Mirrored (level M k) (level N k)
+  levels-mirrored = every-level-is-mirrored M N S R
+
+  -- ---- vertex x of level k
+
+  module _ (k x : ℕ) (h : k ≤ levels) (g : x < level M k .count) where
+    pub there : x < level N k .count
+    there = rw (levels-mirrored k .count) g
+
+    fresh-left : (axis : ℕ) → axis < 3 → coordinateAt ps axis (start k + x) ≡ refined (loop M) (coordinateAt ps axis) k x
+    fresh-left axis b = P .left .fresh .fresh axis b k x h g
+
+    fresh-right : (axis : ℕ) → axis < 3 → coordinateAt ps′ axis (start k + x) ≡ refined (loop N) (coordinateAt ps′ axis) k x
+    fresh-right axis b =
+        ap (λ e. coordinateAt ps′ axis (levelStart n e k + x)) (sym same-edges) ∙ P .right .fresh .fresh axis b k x h there
+
+    -- the same control coordinates by another name
+    renamed : (f g : ℕ → ℤ) → ((v : ℕ) → v < n → f v ≡ g v) → refined (loop N) f k x ≡ refined (loop N) g k x
+    unfolding loop level rows
+    renamed f g same = refined-same (loop N) (loop-grounded N (P .right .sound)) f g same k x there
+
+    negated : coordinateAt ps′ 0 (start k + x) ≡ negℤ (coordinateAt ps 0 (start k + x))
+    negated =
+        fresh-right 0 (lit< tt)
+        ∙ renamed (coordinateAt ps′ 0) (λ v. negℤ (coordinateAt ps 0 v)) (P .controls .points .x)
+        ∙ x-is-negated M N S R (coordinateAt ps 0) k x g
+        ∙ ap negℤ (sym (fresh-left 0 (lit< tt)))
+
+    stays : (axis : ℕ) → axis < 3 → ((v : ℕ) → v < n → coordinateAt ps′ axis v ≡ coordinateAt ps axis v)
+        → coordinateAt ps′ axis (start k + x) ≡ coordinateAt ps axis (start k + x)
+    stays axis b same =
+        fresh-right axis b
+        ∙ renamed (coordinateAt ps′ axis) (coordinateAt ps axis) same
+        ∙ y-and-z-stay M N S R (coordinateAt ps axis) k x g
+        ∙ sym (fresh-left axis b)
+
+  -- a row of a level above 0
+  module _ (k x : ℕ) (h : k < levels) (g : x < level M (suc k) .count) where
+    g′ : x < level N (suc k) .count
+    g′ = there (suc k) x h g
+
+    pub valence-right : getD vs′ (start (suc k) + x) 0 ≡ length (level N (suc k) .ring x)
+    valence-right = ap (λ e. getD vs′ (levelStart n e (suc k) + x) 0) (sym same-edges) ∙ P .right .valence k x h g′
+
+    pub ring-right : ringOf vs′ rs′ (start (suc k) + x) ≡ level N (suc k) .ring x
+    ring-right = ap (λ e. ringOf vs′ rs′ (levelStart n e (suc k) + x)) (sym same-edges) ∙ P .right .ring k x h g′
+
+    valence-above : getD vs′ (start (suc k) + x) 0 ≡ getD vs (start (suc k) + x) 0
+    valence-above =
+        valence-right ∙ length-mirrored (level M (suc k)) (level N (suc k)) (levels-mirrored (suc k)) x g ∙ sym (P .left .valence k x h g)
+
+    ring-above : SameRound (reverse (ringOf vs rs (start (suc k) + x))) (ringOf vs′ rs′ (start (suc k) + x))
+    ring-above = rw (P .left .ring k x h g, ring-right) (levels-mirrored (suc k) .ring x g)
+
+  -- ---- every vertex of the stack
+
+  -- the theorem: the tables are mirrored as far as the stack goes
+  pub pair-is-mirrored : MirroredTables (whole n levels vs rs ps) vs rs ps vs′ rs′ ps′
+  pair-is-mirrored =
+      let c = P .controls in
+      let o = P .controls .points in
+      let by = by-control n levels vs rs ps (P .left) in
+      record {
+        valences = c .valences;
+        rings = c .rings;
+        valence = by (λ j. getD vs′ j 0 ≡ getD vs j 0) (c .valence) valence-above;
+        ring = by (λ j. SameRound (reverse (ringOf vs rs j)) (ringOf vs′ rs′ j)) (c .ring) ring-above;
+        points = record {
+          long = o .long;
+          x = by (λ j. coordinateAt ps′ 0 j ≡ negℤ (coordinateAt ps 0 j)) (o .x) (λ k x h g. negated (suc k) x h g);
+          y = by (λ j. coordinateAt ps′ 1 j ≡ coordinateAt ps 1 j) (o .y) (λ k x h g. stays (suc k) x h g 1 (lit< tt) (o .y));
+          z = by (λ j. coordinateAt ps′ 2 j ≡ coordinateAt ps 2 j) (o .z) (λ k x h g. stays (suc k) x h g 2 (lit< tt) (o .z));
+        };
+      }

@@ -1,0 +1,3 @@
+-- The mirrored pair in lent tables, and mirrored lists of moves.
+pub mod Pair
+pub mod MirroredLists

@@ -1,0 +1,1 @@
+// Definitions and theorems only: the mirrored pair in lent tables. See specs/ and proofs/.
