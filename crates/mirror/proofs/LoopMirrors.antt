@@ -2,17 +2,14 @@
 -- terms in another order, and the rings come out reversed, up to where they begin.
 -- Assumes nothing.
 use mathlib.Core.Path.{_≡_, refl, sym, ap, ap₂, _∙_, subst}
-use mathlib.Core.Bool.{cond}
 use mathlib.Core.List.{List, [], _∷_, map, reverse, reverseAux, List·Permᴰ·cons, List·Permᴰ·swap}
 use mathlib.Core.Logic.{⊎-elim}
-use Prim.Native.Nat.{ℕ, _+_, _*_, _≤_, _<_}
+use Prim.Native.Nat.{ℕ, _+_, _≤_, _<_}
 use native.Mathlib.Omega.{arith}
-use lib.Dec.{eqb}
-use lib.ListN.{length}
 use Rattle.mesh.specs.Ring.{_∈_, next, prev, SameRound}
 use Rattle.mesh.specs.Mesh.{Mesh, Sound}
 use Rattle.mesh.specs.Refine.{mid, lowEnd, highEnd, around, refine, level}
-use Rattle.mesh.specs.Loop.{term, edgeMask, loopMask, loop}
+use Rattle.mesh.specs.Loop.{edgeMask, loopMask, loop}
 use Rattle.mesh.proofs.Lists.{lt-split}
 use Rattle.mesh.proofs.Edges as E
 use Rattle.mesh.proofs.Refined as refined
@@ -87,10 +84,9 @@ module _ (M N : Mesh) (S : Sound M) (R : Mirrored M N) where
 
   old-mask-same : (v : ℕ) → v < M .count → SameMask (loopMask M v) (loopMask N v)
   old-mask-same v h =
-      let e : length (N .ring v) ≡ length (M .ring v) = m.length-mirrored M N R v h in
-      rw (old-mask M v h, old-mask N v (rw (R .count) h)) (record {
-        terms = List·Permᴰ·cons (ap (λ n. term (cond (eqb n 3) 7 (5 * n)) v) (sym e)) (map-shuffled (term 3) (m.neighbours M N R v h));
-        divisor = ap (λ n. cond (eqb n 3) 16 (8 * n)) e;
+      rw (old-mask M v h, old-mask N v (rw (R .count) h), m.length-mirrored M N R v h) (record {
+        terms = List·Permᴰ·cons refl (map-shuffled _ (m.neighbours M N R v h));
+        divisor = refl;
       })
 
   old-ring-mirrored : (v : ℕ) → v < M .count → SameRound (reverse (refine M .ring v)) (refine N .ring v)
