@@ -175,8 +175,3 @@ reversed-faces l m s o =
           let j : y ∈ l = next-in l x i in
           prev-is-what-it-follows m (distinct-shuffled p o) y x (in-shuffled y p j) (ahead y j ∙ prev-is-what-it-follows l o x y i refl);
     }
-
-pub facing-back : (l m : List ℕ) → Facing l m → Facing m l
-facing-back l m f =
-    let q : List·Permᴰ m l = Permᴰ·symm (f .entries) in
-    record { entries = q; next-is = λ x i. sym (f .prev-is x (in-shuffled x q i)); prev-is = λ x i. sym (f .next-is x (in-shuffled x q i)) }

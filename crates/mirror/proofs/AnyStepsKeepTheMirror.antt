@@ -53,7 +53,7 @@ module _ (steps : ℕ → Step) (founded : (k : ℕ) → Founded (steps k)) (M :
   grounded k = founded k .below (levelBy steps M k) (levels-sound k)
 
   -- negated control points are refined to negated points
-  pub negated-refines : (control : ℕ → ℤ) (k x : ℕ) → x < levelBy steps M k .count
+  negated-refines : (control : ℕ → ℤ) (k x : ℕ) → x < levelBy steps M k .count
       → refined (masksBy steps M) (λ v. negℤ (control v)) k x ≡ negℤ (refined (masksBy steps M) control k x)
   unfolding refined masksBy levelBy
   negated-refines control zero v h = refl

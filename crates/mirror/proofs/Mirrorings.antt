@@ -43,7 +43,7 @@ module _ (M N : Mesh) (R : Mirrored M N) where
   pub mirrored-in : (v u : ℕ) → v < M .count → u ∈ M .ring v → u ∈ N .ring v
   mirrored-in v u h = in-shuffled u (neighbours v h)
 
-  pub in-mirrored : (v u : ℕ) → v < M .count → u ∈ N .ring v → u ∈ M .ring v
+  in-mirrored : (v u : ℕ) → v < M .count → u ∈ N .ring v → u ∈ M .ring v
   in-mirrored v u h = in-shuffled u (Permᴰ·symm (neighbours v h))
 
   -- the other way round

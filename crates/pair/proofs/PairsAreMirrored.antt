@@ -45,7 +45,7 @@ module _ (n levels : ℕ) (vs rs : List ℕ) (ps : List ℤ) (vs′ rs′ : List
   pub same-edges : edges N ≡ edges M
   same-edges = sound.same-edges M N R
 
-  pub levels-mirrored : (k : ℕ) → Mirrored (level M k) (level N k)
+  levels-mirrored : (k : ℕ) → Mirrored (level M k) (level N k)
   levels-mirrored = every-level-is-mirrored M N S R
 
   -- ---- vertex x of level k
@@ -86,10 +86,10 @@ module _ (n levels : ℕ) (vs rs : List ℕ) (ps : List ℤ) (vs′ rs′ : List
     g′ : x < level N (suc k) .count
     g′ = there (suc k) x h g
 
-    pub valence-right : getD vs′ (start (suc k) + x) 0 ≡ length (level N (suc k) .ring x)
+    valence-right : getD vs′ (start (suc k) + x) 0 ≡ length (level N (suc k) .ring x)
     valence-right = ap (λ e. getD vs′ (levelStart n e (suc k) + x) 0) (sym same-edges) ∙ P .right .valence k x h g′
 
-    pub ring-right : ringOf vs′ rs′ (start (suc k) + x) ≡ level N (suc k) .ring x
+    ring-right : ringOf vs′ rs′ (start (suc k) + x) ≡ level N (suc k) .ring x
     ring-right = ap (λ e. ringOf vs′ rs′ (levelStart n e (suc k) + x)) (sym same-edges) ∙ P .right .ring k x h g′
 
     valence-above : getD vs′ (start (suc k) + x) 0 ≡ getD vs (start (suc k) + x) 0
