@@ -172,6 +172,37 @@ static void try_file(void) {
 }
 
 /* A list of so many moves, of all kinds, that ends where `moves` holds its 64th. */
+/* The mesh as text, written and read; cut off, with other bytes in it, and in tables that are too short. */
+static void try_text(void) {
+    static const char bytes[] = "0123456789- \nOF";
+    size_t count = mesh.count, length;
+    lay(count + TAIL);
+    length = gt_write_off(TABLES, count, file, sizeof file).value;
+    close_behind(count);
+    watch_close(file, sizeof file, "the text", 0);
+    WATCH("no room", GT_NO_ROOM, gt_write_off, TABLES, count, file, length - 1);
+    WATCH("the mesh", 0, gt_write_off, TABLES, count, file, sizeof file);
+    for (size_t k = 0; k < 24; k++) {
+        size_t cut = below(k < 8 ? 60 : length);
+        close_all();
+        CLOSE(file, cut, sizeof file, "text from");
+        WATCH("cut off", GT_BAD_TEXT, gt_read_off, file, cut, TABLES);
+    }
+    close_all();
+    CLOSE(file, length, sizeof file, "text from");
+    for (size_t k = 0; k < 40; k++) {
+        size_t at = below(length);
+        uint8_t was = file[at];
+        file[at] = (uint8_t)bytes[below(sizeof bytes - 1)];
+        uint32_t wanted = gt_read_off(file, length, TABLES).number;
+        WATCH("changed", wanted, gt_read_off, file, length, TABLES);
+        file[at] = was;
+    }
+    WATCH("the mesh", 0, gt_read_off, file, length, TABLES);
+    rows = count - 1;
+    WATCH("too short", GT_TABLE_TOO_SHORT, gt_read_off, file, length, TABLES);
+}
+
 static gt_move *list_of(size_t length) {
     static const gt_move some[3] = {{0, GT_PLACE, 1, 2, 3}, {0, GT_SHIFT, 0, 0.001, 0}, {0, GT_STRETCH, 0.5, -0.5, 1}};
     for (size_t i = 0; i < GT_MOST_MOVES; i++) {
@@ -312,6 +343,7 @@ static void try_damaged(void) {
         WATCH("damaged", wanted, gt_flip, TABLES, count, 0, 1);
         WATCH("damaged", wanted, gt_refine, TABLES, count, 2);
         WATCH("damaged", wanted, gt_moves, TABLES, MAP, count, 2, list_of(1), 1);
+        WATCH("damaged", wanted, gt_write_off, TABLES, count, file, sizeof file);
     }
 }
 
@@ -333,6 +365,7 @@ static void try_sizes(void) {
     WATCH("three vertices", GT_VERTEX_COUNT, gt_flip, TABLES, 3, 0, 1);
     WATCH("three vertices", GT_VERTEX_COUNT, gt_refine, TABLES, 3, 1);
     WATCH("three vertices", GT_VERTEX_COUNT, gt_write, TABLES, 3, file, sizeof file);
+    WATCH("three vertices", GT_VERTEX_COUNT, gt_write_off, TABLES, 3, file, sizeof file);
     rows = count - 1;
     WATCH("too short", GT_TABLE_TOO_SHORT, gt_check, TABLES, count);
     WATCH("too short", GT_TABLE_TOO_SHORT, gt_split_edge, TABLES, count, 0, 1);
@@ -340,6 +373,7 @@ static void try_sizes(void) {
     WATCH("too short", GT_TABLE_TOO_SHORT, gt_flip, TABLES, count, 0, 1);
     WATCH("too short", GT_TABLE_TOO_SHORT, gt_refine, TABLES, count, 1);
     WATCH("too short", GT_TABLE_TOO_SHORT, gt_write, TABLES, count, file, sizeof file);
+    WATCH("too short", GT_TABLE_TOO_SHORT, gt_write_off, TABLES, count, file, sizeof file);
     rows = total - 1;
     close_behind(count);
     close_lists(0);
@@ -396,6 +430,7 @@ static void try_mesh(size_t levels) {
     mesh_random_positions(&mesh, &state, GT_GREATEST_COORDINATE);
     for (size_t k = 1; k <= levels; k++) try_levels(k);
     try_file();
+    try_text();
     try_reshaping();
     try_altered();
     try_damaged();
@@ -419,6 +454,6 @@ int main(void) {
     mesh_sphere(&mesh, &state, 150);
     mesh_flip_random(&mesh, &state, 3000, GT_RING_PLACES);
     try_mesh(2);
-    puts("closed: all calls tried on rings, meshes, stacks, files and lists");
+    puts("closed: all calls tried on rings, meshes, stacks, files, texts and lists");
     return 0;
 }

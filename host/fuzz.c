@@ -6,10 +6,12 @@
  * nothing and answers no counts; ring edits change one row; what is read can be written back; an accepted move list
  * touches exactly the points that the definition says, leaves the others, and its stack equals a fresh refinement; a
  * mesh and its mirror image are answered alike, and mirrored lists leave them mirrored; edits of the mesh keep it sound,
- * change its counts and rows as they should, and a flip can be flipped back. Beside all that, the plain implementation is
- * asked the same on copies of the tables, and must answer and leave the same. */
+ * change its counts and rows as they should, and a flip can be flipped back; a mesh that is read from OFF text passes the
+ * check, and what is written as OFF text lists its faces ascending and can be read back. Beside all that, the plain
+ * implementation is asked the same on copies of the tables, and must answer and leave the same. */
 #include "hold.h"
 #include "mirror.h"
+#include "texts.h"
 
 /* A number that is often right: below n, n itself, or anything. */
 static size_t around(size_t n) {
@@ -170,6 +172,22 @@ static gt_value call_write(size_t count, size_t length) {
     return answer;
 }
 
+static gt_value call_read_off(size_t length) {
+    gt_value answer;
+    ASK(answer, read_off, lent.bytes, length, VALENCES, RINGS, POSITIONS);
+    hold_value(answer);
+    HOLD(guard_unchanged(&bytes) && guard_intact(&bytes) && guard_unchanged(&map));
+    return answer;
+}
+
+static gt_value call_write_off(size_t count, size_t length) {
+    gt_value answer;
+    ASK(answer, write_off, VALENCES, RINGS, POSITIONS, count, lent.bytes, length);
+    hold_value(answer);
+    HOLD(tables_unchanged() && guard_intact(&bytes) && (answer.number == 0 || guard_unchanged(&bytes)));
+    return answer;
+}
+
 /* The edits of the mesh. */
 enum { SPLIT_EDGE, SPLIT_FACE, FLIP, RESHAPINGS };
 
@@ -210,6 +228,8 @@ static void try_noise(void) {
     lend_noise(&bytes, 1, length);
     call_read(length);
     remember_tables();
+    call_read_off(length);
+    call_write_off(count, length);
     call_write(count, length);
 }
 
@@ -592,6 +612,128 @@ static int same_round(const control_mesh *one, const control_mesh *other, size_t
     return other->valences[v] == n;
 }
 
+/* Reads a text into tables of noise. What is accepted passes the check; its rows are in order and begin with the smallest
+ * neighbour, and nothing behind them is written. */
+static gt_value read_text(const off_text *text, size_t rows) {
+    lend(&bytes, text->bytes, text->length);
+    valences_length = rows, rings_length = GT_RING_PLACES * rows, positions_length = 3 * rows;
+    lend_noise(&valences, 2, valences_length), lend_noise(&rings, 2, rings_length);
+    lend_noise(&positions, 4, positions_length);
+    gt_value answer = call_read_off(text->length);
+    if (answer.number) return answer;
+    size_t count = answer.value;
+    HOLD(memcmp(valences.begin + 2 * count, valences.was + 2 * count, valences.bytes - 2 * count) == 0);
+    HOLD(memcmp(rings.begin + 64 * count, rings.was + 64 * count, rings.bytes - 64 * count) == 0);
+    HOLD(memcmp(positions.begin + 12 * count, positions.was + 12 * count, positions.bytes - 12 * count) == 0);
+    for (size_t v = 0; v < count; v++) {
+        const uint16_t *row = (const uint16_t *)rings.begin + GT_RING_PLACES * v;
+        HOLD(row_in_order(count, v));
+        for (size_t i = 1; i < ((const uint16_t *)valences.begin)[v]; i++) HOLD(row[0] < row[i]);
+    }
+    remember_tables();
+    HOLD(call_check(count).number == 0);
+    return answer;
+}
+
+/* Reads a text of a mesh, which gives back its points, and its rings up to where they begin. */
+static void read_mesh(const off_text *text, const control_mesh *m) {
+    static control_mesh now;
+    gt_value answer = read_text(text, m->count + below(3));
+    HOLD(answer.number == 0 && answer.value == m->count);
+    take_mesh(&now, m->count);
+    for (size_t v = 0; v < m->count; v++) HOLD(same_round(&now, m, v));
+    HOLD(memcmp(now.positions, m->positions, 12 * m->count) == 0);
+}
+
+/* The faces of a text that was written: each begins with its smallest corner, and they ascend. */
+static void hold_ascending(const off_text *text, size_t points, size_t faces) {
+    const char *at = text->bytes;
+    unsigned long last = 0, pair, a, b, c;
+    for (size_t line = 0; line < 2 + points; line++) at = strchr(at, '\n') + 1;
+    for (size_t i = 0; i < faces; i++) {
+        HOLD(sscanf(at, "3 %lu %lu %lu\n", &a, &b, &c) == 3 && a < b && a < c);
+        pair = GT_MOST_VERTICES * a + b;
+        HOLD(i == 0 || last < pair);
+        last = pair, at = strchr(at, '\n') + 1;
+    }
+    HOLD(at == text->bytes + text->length);
+}
+
+/* A mesh's text, written into all the room that it can need, into just its room, and into a byte less, and read back. */
+static void try_written_text(const control_mesh *m) {
+    static off_text text;
+    lend_mesh(m, m->count + below(3), 1);
+    remember_tables();
+    gt_counts counts = call_check(m->count);
+    size_t room = 21 + 27 * counts.v + 17 * counts.f;
+    lend_noise(&bytes, 1, room);
+    gt_value written = call_write_off(m->count, room);
+    HOLD(written.number == 0 && written.value <= room && written.value <= GT_MOST_OFF_BYTES);
+    text.length = written.value;
+    HOLD(memcmp(bytes.begin + text.length, bytes.was + text.length, room - text.length) == 0);
+    memcpy(text.bytes, bytes.begin, text.length);
+    text.bytes[text.length] = 0;
+    lend_noise(&bytes, 1, text.length - 1);
+    HOLD(call_write_off(m->count, text.length - 1).number == GT_NO_ROOM);
+    lend_noise(&bytes, 1, text.length);
+    HOLD(call_write_off(m->count, text.length).value == text.length && same(&bytes, text.bytes));
+    hold_ascending(&text, counts.v, counts.f);
+    read_mesh(&text, m);
+}
+
+/* A damaged mesh is not written, with the reason and place of the check. */
+static void try_damaged_text(const control_mesh *m) {
+    static control_mesh damaged;
+    damaged = *m;
+    damage(&damaged);
+    lend_mesh(&damaged, m->count, 1);
+    remember_tables();
+    lend_noise(&bytes, 1, below(4000));
+    gt_counts checked = call_check(m->count);
+    gt_value answer = call_write_off(m->count, bytes.bytes);
+    if (checked.number) HOLD(answer.number == checked.number && answer.place == checked.place);
+    else HOLD(answer.number == 0 || answer.number == GT_NO_ROOM);
+}
+
+/* Listed faces as a text, then with something changed in the list, in the text, or in both. */
+static void try_list(const face_list *sound) {
+    static face_list list;
+    static off_text text;
+    for (size_t k = 0; k < 6; k++) {
+        list = *sound;
+        shuffle_faces(&list);
+        for (size_t times = below(3); k % 3 != 1 && times > 0; times--) damage_list(&list);
+        put_text(&text, &list);
+        for (size_t times = 1 + below(2); k % 3 != 0 && times > 0; times--) damage_text(&text);
+        read_text(&text, below(8) ? list.points : below(list.points + 1));
+    }
+}
+
+/* Writing and reading OFF text of a mesh, as it is and damaged. */
+static void try_text(const control_mesh *m) {
+    static face_list list;
+    static off_text text;
+    try_written_text(m);
+    try_damaged_text(m);
+    list_mesh(&list, m);
+    try_list(&list);
+    shuffle_faces(&list);
+    put_text(&text, &list);
+    read_mesh(&text, m);
+}
+
+/* A cone whose tips have up to some hundred neighbours: 4 where that is over 32 and the rest as it should be. */
+static void try_cone(size_t n) {
+    static face_list list;
+    static off_text text;
+    list_cone(&list, n);
+    put_text(&text, &list);
+    gt_value answer = read_text(&text, n + 2);
+    if (n > GT_RING_PLACES) HOLD(answer.number == GT_RING_IMPROPER && answer.place == 0);
+    else HOLD(answer.number == 0);
+    try_list(&list);
+}
+
 /* Flips the new edge, which gives back the old mesh. */
 static void flip_back(const control_mesh *m, const size_t *joined) {
     static control_mesh now;
@@ -647,7 +789,8 @@ static void try_new_row(const control_mesh *m) {
     if (answer.number != GT_RING_FULL) HOLD(answer.number == (short_by ? (uint32_t)GT_NO_ROOM : (uint32_t)GT_ACCEPTED));
 }
 
-/* A mesh of nearly the most vertices is split until it has them; from there on a split is refused, a flip is not. */
+/* A mesh of nearly the most vertices is split until it has them; from there on a split is refused, a flip is not. It is
+ * written and read as OFF text. */
 static void try_most(void) {
     static control_mesh m;
     size_t count = GT_MOST_VERTICES - 2, flips = 0;
@@ -662,6 +805,8 @@ static void try_most(void) {
         flips += k % RESHAPINGS == FLIP && accepted_calls > before + 1;
     }
     HOLD(flips > 0);
+    take_mesh(&m, count);
+    try_text(&m);
 }
 
 int main(int argc, char **argv) {
@@ -674,6 +819,8 @@ int main(int argc, char **argv) {
         for (size_t i = 0; i < 8; i++) try_noise();
         random_mesh(&m);
         try_file(&m);
+        try_text(&m);
+        if (rounds_done % 8 == 0) try_cone(3 + below(rounds_done % 16 ? 60 : 300));
         try_moves(&m);
         try_pair(&m);
         try_altered(&m);

@@ -14,7 +14,8 @@ static control_mesh mesh;
 static uint16_t valences[MOST_ROWS], rings[GT_RING_PLACES * MOST_ROWS];
 static int32_t positions[3 * MOST_ROWS], before[3 * MOST_ROWS];
 static uint32_t map[MOST_WORDS];
-static size_t stacks, lists;
+static uint8_t text[GT_MOST_OFF_BYTES], again[GT_MOST_OFF_BYTES];
+static size_t stacks, lists, texts;
 
 #define HOLD(claim) ((claim) ? (void)0 : fail(#claim, __LINE__))
 
@@ -23,7 +24,7 @@ static void fail(const char *claim, int line) {
     exit(1);
 }
 
-static int is_reason(uint32_t number) { return number <= GT_CANNOT_FLIP || number == GT_UNKNOWN_KIND; }
+static int is_reason(uint32_t number) { return number <= GT_OPEN_RING || number == GT_UNKNOWN_KIND; }
 
 /* Every reason has a text of its own, and no other number has one. */
 static void try_reasons(void) {
@@ -42,9 +43,9 @@ static size_t try_calls(void) {
     typedef void (*any_call)(void);
     static const any_call all[] = {
         (any_call)gt_check, (any_call)gt_refine, (any_call)gt_moves, (any_call)gt_read, (any_call)gt_write,
-        (any_call)gt_split_edge, (any_call)gt_split_face, (any_call)gt_flip, (any_call)gt_make, (any_call)gt_erase,
-        (any_call)gt_replace, (any_call)gt_insert_after, (any_call)gt_insert_before, (any_call)gt_contains,
-        (any_call)gt_next, (any_call)gt_prev, (any_call)gt_valence,
+        (any_call)gt_read_off, (any_call)gt_write_off, (any_call)gt_split_edge, (any_call)gt_split_face, (any_call)gt_flip,
+        (any_call)gt_make, (any_call)gt_erase, (any_call)gt_replace, (any_call)gt_insert_after, (any_call)gt_insert_before,
+        (any_call)gt_contains, (any_call)gt_next, (any_call)gt_prev, (any_call)gt_valence,
     };
     size_t count = sizeof all / sizeof *all;
     for (size_t i = 0; i < count; i++)
@@ -95,6 +96,24 @@ static void try_map(size_t rows, size_t levels) {
     lists++;
 }
 
+static gt_value write_text(uint8_t *room, size_t length) {
+    return gt_write_off(valences, mesh.count, rings, GT_RING_PLACES * mesh.count, positions, 3 * mesh.count, mesh.count, room,
+                        length);
+}
+
+/* A mesh as text has no more bytes than the header says, is refused by 10 in one byte less, and read back and written again
+ * it is the same text. */
+static void try_text(gt_counts control) {
+    gt_value bytes = write_text(text, sizeof text);
+    HOLD(bytes.number == GT_ACCEPTED && bytes.value <= 21 + 27 * control.v + 17 * control.f);
+    HOLD(write_text(text, bytes.value - 1).number == GT_NO_ROOM);
+    gt_value back = gt_read_off(text, bytes.value, valences, mesh.count, rings, GT_RING_PLACES * mesh.count, positions,
+                                3 * mesh.count);
+    HOLD(back.number == GT_ACCEPTED && back.value == control.v);
+    HOLD(write_text(again, bytes.value).value == bytes.value && memcmp(text, again, bytes.value) == 0);
+    texts++;
+}
+
 static void try_mesh(size_t levels) {
     uint64_t state = 1;
     mesh_random_positions(&mesh, &state, GT_GREATEST_COORDINATE);
@@ -104,6 +123,7 @@ static void try_mesh(size_t levels) {
     gt_counts control = gt_check(valences, mesh.count, rings, GT_RING_PLACES * mesh.count, positions, 3 * mesh.count,
                                  mesh.count);
     HOLD(control.number == GT_ACCEPTED && gt_stack_rows(control.v, control.e, 0) == control.v);
+    try_text(control);
     for (size_t k = 1; k <= levels; k++) try_map(try_rows(control.e, k), k);
 }
 
@@ -116,7 +136,7 @@ static void try_bits(void) {
 
 int main(void) {
     uint64_t state = 5;
-    HOLD(GT_VERSION_MAJOR == 2 && GT_VERSION_MINOR == 0 && GT_VERSION_PATCH == 0 && GT_VERSION == 20000);
+    HOLD(GT_VERSION_MAJOR == 2 && GT_VERSION_MINOR == 1 && GT_VERSION_PATCH == 0 && GT_VERSION == 20100);
     HOLD(gt_stack_rows(4, 6, 1) == 14 && gt_stack_rows(6, 12, 4) == 1374);
     try_reasons();
     try_bits();
@@ -126,7 +146,7 @@ int main(void) {
     mesh_torus(&mesh, 4, 8), try_mesh(4);     /* rows that fill their last word */
     mesh_sphere(&mesh, &state, 200), try_mesh(4);
     mesh_sphere(&mesh, &state, GT_MOST_VERTICES), try_mesh(2);
-    printf("the header's helpers hold: version %d.%d.%d, %zu calls, %d reasons, %zu stacks, %zu lists of moves\n",
-           GT_VERSION_MAJOR, GT_VERSION_MINOR, GT_VERSION_PATCH, try_calls(), GT_CANNOT_FLIP + 2, stacks, lists);
+    printf("the header's helpers hold: version %d.%d.%d, %zu calls, %d reasons, %zu stacks, %zu lists of moves, %zu texts\n",
+           GT_VERSION_MAJOR, GT_VERSION_MINOR, GT_VERSION_PATCH, try_calls(), GT_OPEN_RING + 2, stacks, lists, texts);
     return 0;
 }

@@ -25,6 +25,8 @@ extern __typeof__(gt_split_face) twin_split_face;
 extern __typeof__(gt_flip) twin_flip;
 extern __typeof__(gt_read) twin_read;
 extern __typeof__(gt_write) twin_write;
+extern __typeof__(gt_read_off) twin_read_off;
+extern __typeof__(gt_write_off) twin_write_off;
 extern __typeof__(gt_make) twin_make;
 extern __typeof__(gt_erase) twin_erase;
 extern __typeof__(gt_replace) twin_replace, twin_insert_after, twin_insert_before;
@@ -93,7 +95,7 @@ static void hold_call(uint32_t number, size_t place, int any_count) {
     calls++;
     accepted_calls += number == 0;
     HOLD(guard_intact(&valences) && guard_intact(&rings) && guard_intact(&positions) && guard_intact(&map));
-    HOLD(number <= GT_CANNOT_FLIP || number == GT_UNKNOWN_KIND);
+    HOLD(number <= GT_OPEN_RING || number == GT_UNKNOWN_KIND);
     if (number == 0) HOLD(place == 0);
     else HOLD(tables_unchanged() && !any_count);
 }

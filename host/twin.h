@@ -11,6 +11,8 @@
 #define gt_flip twin_flip
 #define gt_read twin_read
 #define gt_write twin_write
+#define gt_read_off twin_read_off
+#define gt_write_off twin_write_off
 #define gt_make twin_make
 #define gt_erase twin_erase
 #define gt_replace twin_replace

@@ -1,4 +1,5 @@
-/* Gypsumtrot: ring tables of closed triangle meshes, their edits, Loop refinement, dragging of points, mesh files.
+/* Gypsumtrot: ring tables of closed triangle meshes, their edits, Loop refinement, dragging of points, mesh files and OFF
+ * text.
  *
  * The library keeps nothing between calls and allocates nothing: every call works in tables that you lend it.
  * It has no global state, so calls on different tables may run at the same time.
@@ -33,7 +34,7 @@
 
 /* The version of this header and of the archive that goes with it. */
 #define GT_VERSION_MAJOR 2       /* grows if a program written for the version before may have to be changed */
-#define GT_VERSION_MINOR 0       /* grows if something is added, and nothing that was there changes */
+#define GT_VERSION_MINOR 1       /* grows if something is added, and nothing that was there changes */
 #define GT_VERSION_PATCH 0       /* grows if only costs or comments change, or a fault is mended */
 /* All three as one number that grows with each version: 10203 is 1.2.3. It serves in #if. */
 #define GT_VERSION (10000 * GT_VERSION_MAJOR + 100 * GT_VERSION_MINOR + GT_VERSION_PATCH)
@@ -51,6 +52,7 @@ enum {
     GT_MOST_LEVEL_VERTICES = 65535,
     GT_NULL_VERTEX = 65535,      /* stands in unused places; answered for an absent neighbour */
     GT_MOST_MOVES = 64,
+    GT_MOST_OFF_BYTES = 177821,  /* no text that gt_write_off writes or gt_read_off accepts is longer */
     GT_UNITS_A_MILLIMETRE = 1024,
     GT_GREATEST_COORDINATE = 1048576
 };
@@ -69,8 +71,8 @@ enum {
     GT_LEVEL_COUNT = 8,          /* L is not 1 to 4; place 0 */
     GT_LEVEL_TOO_LARGE = 9,      /* a level would have over 65,535 vertices; the first such level, the control mesh
                                     being level 0 */
-    GT_NO_ROOM = 10,             /* the tables are too short for the stack or for a new vertex, or the map or the file's
-                                    room is; place 0 */
+    GT_NO_ROOM = 10,             /* the tables are too short for the stack or for a new vertex, or the map or the room
+                                    for a file or a text is; place 0 */
     GT_STACK_ALTERED = 11,       /* above level 0 a valence or ring place is not what refinement gives, or a coordinate
                                     is out of range; the lowest such stack vertex */
     GT_TOO_MANY_MOVES = 12,      /* over 64; place 0 */
@@ -83,6 +85,9 @@ enum {
     GT_NO_EDGE_OR_FACE = 18,     /* the vertices named are no edge, or no face that turns as they are named; place 0 */
     GT_CANNOT_FLIP = 19,         /* an end of the edge has valence 3, or the vertices that a flip would join are
                                     neighbours already; place 0 */
+    GT_BAD_TEXT = 20,            /* a line of an OFF text is not as it should be, or missing, or there is one too many; the
+                                    first such line, counted from 1 */
+    GT_OPEN_RING = 21,           /* the faces at a vertex do not close into one ring; the lowest such vertex */
     GT_UNKNOWN_KIND = 99         /* a move's kind is not 0, 1 or 2; its place in the list */
 };
 
@@ -176,6 +181,31 @@ gt_value gt_read(const uint8_t *bytes, size_t bytes_length, uint16_t *valences, 
 gt_value gt_write(const uint16_t *valences, size_t valences_length, const uint16_t *rings, size_t rings_length,
                   const int32_t *positions, size_t positions_length, size_t v, uint8_t *file, size_t file_length);
 
+/* Reads OFF text, a list of points and faces, into the tables. Taken is this subset: a line `OFF`; a line `V F E` with
+ * 2 E = 3 F; V lines `x y z` in units; F lines `3 a b c` with three different corners below V. Each line ends with a
+ * newline, and single blanks stand between its items; nothing else is there, and nothing behind the last line. Numbers are
+ * whole, without plus signs or leading zeros, V, F, E and corners up to 4,294,967,295, units from -2,147,483,648 to
+ * 2,147,483,647 and never -0. The face a, b, c means next(a in b) = c, next(b in c) = a and next(c in a) = b. Each ring
+ * begins with its smallest neighbour. What is accepted passes gt_check.
+ * Reads:    `text`. Writes: the first V rows of the three tables, unused ring places with 65,535.
+ * Answers:  value, V.
+ * Refuses:  20 (the whole text is judged before anything else; a line that is missing has its own number), 2, 1; 21 (a
+ *           vertex without faces is closed), 4 (under 3 or over 32 faces), 7, each over all vertices before the next.
+ * Cost:     a pass over the text and, over its faces, two for every 128 vertices where none has more than 8 faces, at most
+ *           six for every 32 vertices of a text that is accepted, two a vertex of one that is refused. A sphere of 257
+ *           vertices takes under 1 million instructions, one of 1,024 under 8 million. */
+gt_value gt_read_off(const uint8_t *text, size_t text_length, uint16_t *valences, size_t valences_length,
+                     uint16_t *rings, size_t rings_length, int32_t *positions, size_t positions_length);
+
+/* Writes the mesh as OFF text that gt_read_off takes: each face once, from its smallest corner on, in ascending order.
+ * Reading it back gives the same points and rings, up to where each ring begins.
+ * Reads:    the first V rows of the three tables. Writes: the text's bytes at the front of `text`; the rest stays.
+ * Answers:  value, the number of bytes: at most 21 + 27 V + 17 F, and at most GT_MOST_OFF_BYTES.
+ * Refuses:  what gt_check refuses, 10.
+ * Cost:     that of gt_check, and linear in the text's bytes. */
+gt_value gt_write_off(const uint16_t *valences, size_t valences_length, const uint16_t *rings, size_t rings_length,
+                      const int32_t *positions, size_t positions_length, size_t v, uint8_t *text, size_t text_length);
+
 /* EDITS OF THE MESH work on a sound control mesh of `v` vertices; it stays sound, and V - E + F stays what it is. An edge
  * is named by its two ends, in either order: p is the smaller, q the greater, a and b are the neighbours of p after and
  * before q, as in gt_refine. A face is named by its three corners: a, b, c is the face with next(a in b) = c, and so are
@@ -259,7 +289,7 @@ static inline const char *gt_reason(uint32_t number) {
     case GT_CONTROL_COORDINATE: return "a control coordinate is out of range";
     case GT_LEVEL_COUNT: return "the number of levels is not 1 to 4";
     case GT_LEVEL_TOO_LARGE: return "a level would have over 65,535 vertices";
-    case GT_NO_ROOM: return "the room for the stack, a new vertex, the map or the file is too short";
+    case GT_NO_ROOM: return "the room for the stack, a new vertex, the map, the file or the text is too short";
     case GT_STACK_ALTERED: return "a level above the control mesh is not as refinement gives it";
     case GT_TOO_MANY_MOVES: return "there are over 64 moves";
     case GT_NOT_FINITE: return "a number of a move is not finite";
@@ -269,6 +299,8 @@ static inline const char *gt_reason(uint32_t number) {
     case GT_FILE_LAYOUT: return "the bytes are not a mesh file";
     case GT_NO_EDGE_OR_FACE: return "the vertices named are no edge or no face";
     case GT_CANNOT_FLIP: return "the edge cannot be flipped";
+    case GT_BAD_TEXT: return "a line of the text is not as OFF text should be";
+    case GT_OPEN_RING: return "the faces at a vertex do not close into one ring";
     case GT_UNKNOWN_KIND: return "the kind of a move is not 0, 1 or 2";
     default: return "unknown reason";
     }

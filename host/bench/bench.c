@@ -4,11 +4,12 @@
  *   bench MESH LEVELS OPERATION REPETITIONS
  *
  * MESH is sphere:V, torus:AxB (all valences 6), wild:V (valences up to 32), tubes:AxB:N (most valences N), or cone:N (two
- * tips of valence N, the first vertex and the last). OPERATION is check, refine, drag, list, read or write; an edit of the
- * mesh at an edge near the middle of the tables, each repetition from where the one before left it: edge, face (which
- * split one), flip; or a ring call on the first vertex and the last in turn: contains, next, valence, make (the ring as it
- * is), erase (the neighbour in the middle; two repetitions at most, one a vertex). Prints the number of vertices of the
- * stack, and its mean valence at level 0. */
+ * tips of valence N, the first vertex and the last). OPERATION is check, refine, drag, list, read or write; on OFF text
+ * off-read (as written), off-mixed (read with its faces shuffled and turned) or off-write; an edit of the mesh at an edge
+ * near the middle of the tables, each repetition from where the one before left it: edge, face (which split one), flip; or
+ * a ring call on the first vertex and the last in turn: contains, next, valence, make (the ring as it is), erase (the
+ * neighbour in the middle; two repetitions at most, one a vertex). Prints the number of vertices of the stack, and its mean
+ * valence at level 0. */
 #include <stdio.h>
 #include <stdlib.h>
 #include "../meshes.h"
@@ -18,8 +19,11 @@ static uint16_t *valences, *rings;
 static int32_t *positions;
 static uint32_t *map;
 static uint8_t *file;
+static char text[GT_MOST_OFF_BYTES + 1], mixed[GT_MOST_OFF_BYTES + 1];
 static gt_move moves[GT_MOST_MOVES];
-static size_t rows, words, file_length, levels;
+static size_t rows, words, file_length, text_length, levels;
+
+#define TABLES valences, rows, rings, GT_RING_PLACES * rows, positions, 3 * rows
 
 static void need(int condition, const char *what) {
     if (condition) return;
@@ -70,24 +74,41 @@ static void prepare(void) {
     }
 }
 
-static int operate(char operation) {
-    size_t ring_places = GT_RING_PLACES * rows, coordinates = 3 * rows, v = control.count;
-    switch (operation) {
-    case 'c': return gt_check(valences, rows, rings, ring_places, positions, coordinates, v).number == 0;
-    case 'f': return gt_refine(valences, rows, rings, ring_places, positions, coordinates, v, levels).number == 0;
-    case 'd': return gt_moves(valences, rows, rings, ring_places, positions, coordinates, map, words, v, levels, moves, 1).number == 0;
-    case 'l': return gt_moves(valences, rows, rings, ring_places, positions, coordinates, map, words, v, levels, moves, 64).number == 0;
-    case 'r': return gt_read(file, file_length, valences, rows, rings, ring_places, positions, coordinates).number == 0;
-    case 'w': return gt_write(valences, rows, rings, ring_places, positions, coordinates, v, file, file_length).number == 0;
-    default: return 0;
+/* Writes the control mesh as text, and copies that with the faces in another order, each from another corner on. */
+static void prepare_text(void) {
+    static size_t corners[GT_RING_PLACES * GT_MOST_VERTICES / 3][3];
+    uint64_t state = 77;
+    size_t faces = 0, lines = 2 + control.count;
+    text_length = gt_write_off(TABLES, control.count, (uint8_t *)text, GT_MOST_OFF_BYTES).value;
+    need(text_length > 0, "writing refused");
+    char *at = text;
+    while (lines > 0) lines -= *at++ == '\n';
+    char *out = mixed + (at - text);
+    memcpy(mixed, text, (size_t)(at - text));
+    for (; *at; faces++, at++) {
+        strtoul(at, &at, 10);
+        for (size_t i = 0; i < 3; i++) corners[faces][i] = strtoul(at, &at, 10);
+    }
+    for (; faces > 0; faces--) {
+        size_t other = random_below(&state, faces), turn = random_below(&state, 3), *face = corners[other];
+        out += sprintf(out, "3 %zu %zu %zu\n", face[turn], face[(turn + 1) % 3], face[(turn + 2) % 3]);
+        memcpy(face, corners[faces - 1], sizeof *corners);
     }
 }
+
+static int check(void) { return gt_check(TABLES, control.count).number == 0; }
+static int refine(void) { return gt_refine(TABLES, control.count, levels).number == 0; }
+static int drag(void) { return gt_moves(TABLES, map, words, control.count, levels, moves, 1).number == 0; }
+static int drag_list(void) { return gt_moves(TABLES, map, words, control.count, levels, moves, GT_MOST_MOVES).number == 0; }
+static int read_file(void) { return gt_read(file, file_length, TABLES).number == 0; }
+static int write_file(void) { return gt_write(TABLES, control.count, file, file_length).number == 0; }
+static int read_text(void) { return gt_read_off((uint8_t *)text, text_length, TABLES).number == 0; }
+static int read_mixed(void) { return gt_read_off((uint8_t *)mixed, text_length, TABLES).number == 0; }
+static int write_text(void) { return gt_write_off(TABLES, control.count, (uint8_t *)text, text_length).number == 0; }
 
 /* The edge that is edited, and how many vertices there are. */
 static mesh_edge edited;
 static size_t count;
-
-#define TABLES valences, rows, rings, GT_RING_PLACES * rows, positions, 3 * rows
 
 static int split_edge(void) {
     int good = gt_split_edge(TABLES, count, edited.p, edited.q).number == 0;
@@ -109,20 +130,35 @@ static int flip(void) {
     return good;
 }
 
-/* The edit of a name; null if it is the name of none. */
-static int (*edit_of(const char *operation))(void) {
-    static const struct { const char *name; int (*edit)(void); } edits[] = {
-        {"edge", split_edge}, {"face", split_face}, {"flip", flip}};
-    for (size_t i = 0; i < sizeof edits / sizeof *edits; i++)
-        if (strcmp(operation, edits[i].name) == 0) return edits[i].edit;
-    return NULL;
+static void nothing(void) {}
+static void prepare_edit(void) { count = control.count, edited = mesh_some_flip(&control, count / 2); }
+
+/* What an operation needs besides the stack, and one repetition of it. */
+typedef struct {
+    const char *name;
+    void (*prepare)(void);
+    int (*operate)(void);
+} operation;
+
+/* The operation of a name; null for a ring call. It takes as long to find for one as for another. */
+static const operation *operation_of(const char *name) {
+    static const operation all[] = {
+        {"check", nothing, check}, {"refine", nothing, refine}, {"drag", nothing, drag}, {"list", nothing, drag_list},
+        {"read", nothing, read_file}, {"write", nothing, write_file}, {"off-read", prepare_text, read_text},
+        {"off-mixed", prepare_text, read_mixed}, {"off-write", prepare_text, write_text},
+        {"edge", prepare_edit, split_edge}, {"face", prepare_edit, split_face}, {"flip", prepare_edit, flip},
+    };
+    const operation *found = NULL;
+    for (size_t i = 0; i < sizeof all / sizeof *all; i++)
+        if (strcmp(name, all[i].name) == 0) found = all + i;
+    return found;
 }
 
 /* One ring call on v; the neighbour in the middle of the ring is the one that is looked for. */
-static int operate_ring(char operation, size_t v) {
+static int operate_ring(char call, size_t v) {
     size_t ring_places = GT_RING_PLACES * rows, n = control.valences[v];
     const uint16_t *ring = control.rings + GT_RING_PLACES * v;
-    switch (operation) {
+    switch (call) {
     case 'c': return gt_contains(valences, rows, rings, ring_places, control.count, v, ring[n / 2]).value == 1;
     case 'n': return gt_next(valences, rows, rings, ring_places, control.count, v, ring[n / 2]).value == ring[n / 2 + 1];
     case 'v': return gt_valence(valences, rows, rings, ring_places, control.count, v).value == n;
@@ -132,25 +168,16 @@ static int operate_ring(char operation, size_t v) {
     }
 }
 
-static int is_ring_call(const char *operation) {
-    static const char *const calls[] = {"contains", "next", "valence", "make", "erase"};
-    for (size_t i = 0; i < sizeof calls / sizeof *calls; i++)
-        if (strcmp(operation, calls[i]) == 0) return 1;
-    return 0;
-}
-
 int main(int argc, char **argv) {
     need(argc == 5, "bench MESH LEVELS OPERATION REPETITIONS");
     make_mesh(argv[1]);
     levels = (size_t)atoi(argv[2]);
     prepare();
-    char operation = strcmp(argv[3], "refine") == 0 ? 'f' : argv[3][0];
-    int (*edit)(void) = edit_of(argv[3]), ring_call = is_ring_call(argv[3]);
-    if (edit) count = control.count, edited = mesh_some_flip(&control, count / 2);
+    const operation *named = operation_of(argv[3]);
+    if (named) named->prepare();
     for (int i = atoi(argv[4]); i > 0; i--)
-        if (edit) need(edit(), "an edit was refused");
-        else if (ring_call) need(operate_ring(operation, i % 2 ? control.count - 1 : 0), "a ring call was refused");
-        else need(operate(operation), "an operation was refused");
+        if (named) need(named->operate(), "an operation was refused");
+        else need(operate_ring(argv[3][0], i % 2 ? control.count - 1 : 0), "a ring call was refused");
     printf("%zu %.1f\n", rows, (double)ends() / (double)control.count);
     return 0;
 }

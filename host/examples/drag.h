@@ -30,20 +30,24 @@ static inline void *drag_room(size_t items, size_t size) {
     return room;
 }
 
+/* Reads a whole file. */
 static inline uint8_t *drag_bytes(const char *path, size_t *length) {
     FILE *file = fopen(path, "rb");
-    if (!file) {
-        perror(path);
-        exit(1);
-    }
-    size_t most = 14 + 84 * (size_t)GT_MOST_VERTICES + 1;
-    uint8_t *bytes = drag_room(most, 1);
-    *length = fread(bytes, 1, most, file);
+    uint8_t *bytes = NULL;
+    size_t room = *length = 0;
+    do {
+        room = 2 * room + 65536;
+        if (!file || !(bytes = realloc(bytes, room))) {
+            perror(path);
+            exit(1);
+        }
+        *length += fread(bytes + *length, 1, room - *length, file);
+    } while (*length == room);
     fclose(file);
     return bytes;
 }
 
-/* Writes a mesh file: the bytes that gt_write has put into `file`. */
+/* Writes a file: the bytes that gt_write or gt_write_off has put into `file`. */
 static inline void drag_save(const char *path, const uint8_t *file, gt_value bytes) {
     if (bytes.number) drag_stop("writing", bytes.number, bytes.place);
     FILE *out = fopen(path, "wb");

@@ -3,6 +3,7 @@
 use crate::calls::{self, Bring, Tables};
 use crate::document::*;
 use crate::format::*;
+use crate::off;
 use crate::reshape;
 
 fn nothing(_: ()) -> Vec<usize> {
@@ -112,23 +113,27 @@ pub fn reshape_call(call: u8, count: usize, named: &[usize], mut t: Tables) -> C
     case
 }
 
-pub fn read_call(bytes: &[u8], mut t: Tables) -> Case {
+/// The mesh file or the OFF text is read.
+pub fn read_call(call: u8, bytes: &[u8], mut t: Tables) -> Case {
     let before = t.clone();
-    let mut case = Case::new(READ);
+    let mut case = Case::new(call);
     case.table(bytes);
     case.mesh_tables(&t);
-    case.answer(calls::read(bytes, &mut t), |count| vec![count], &[0]);
+    let answer = if call == READ { calls::read(bytes, &mut t) } else { off::read(bytes, &mut t) };
+    case.answer(answer, |count| vec![count], &[0]);
     case.mesh_runs(&before, &t);
     case
 }
 
-pub fn write_call(count: usize, t: Tables, mut file: Vec<u8>) -> Case {
+/// The mesh file or the OFF text is written.
+pub fn write_call(call: u8, count: usize, t: Tables, mut file: Vec<u8>) -> Case {
     let before = file.clone();
-    let mut case = Case::new(WRITE);
+    let mut case = Case::new(call);
     case.scalar(count);
     case.mesh_tables(&t);
     case.table(&file);
-    case.answer(calls::write(&t, count, &mut file), |bytes| vec![bytes], &[0]);
+    let answer = if call == WRITE { calls::write(&t, count, &mut file) } else { off::write(&t, count, &mut file) };
+    case.answer(answer, |bytes| vec![bytes], &[0]);
     case.mesh_runs(&t, &t);
     case.runs(&before, &file);
     case

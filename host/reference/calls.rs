@@ -56,7 +56,7 @@ impl Tables {
     }
 }
 
-fn good_count(count: usize) -> bool {
+pub fn good_count(count: usize) -> bool {
     (4..=1024).contains(&count)
 }
 

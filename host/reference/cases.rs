@@ -6,6 +6,7 @@ use crate::document::*;
 use crate::format::*;
 use crate::meshes::*;
 use crate::move_cases::*;
+use crate::off_cases;
 use crate::random::Random;
 use crate::reshape_cases;
 use crate::tables::*;
@@ -162,7 +163,7 @@ fn every_large(random: &Random, cases: &mut Vec<Case>) {
 
 fn read_case(random: &Random, bytes: &[u8], mut t: Tables) -> Case {
     resize_any(random, &mut t);
-    read_call(bytes, t)
+    read_call(READ, bytes, t)
 }
 
 fn resize_any(random: &Random, t: &mut Tables) {
@@ -236,7 +237,7 @@ fn write_case(random: &Random) -> Case {
     let exact = calls::write(&t, count, &mut [0; 100_000]).unwrap_or(100);
     let room = random.pick(&[exact, exact, exact + 1, exact + 50, exact - 1, random.below(exact), 0]);
     let file = (0..room).map(|_| random.bits() as u8).collect();
-    write_call(count, t, file)
+    write_call(WRITE, count, t, file)
 }
 
 fn listing_case(random: &Random) -> Case {
@@ -309,5 +310,6 @@ pub fn all(seed: u64, rounds: usize) -> Vec<Case> {
         }
     }
     reshape_cases::all(&random, rounds, &mut cases);
+    off_cases::all(&random, rounds, &mut cases);
     cases
 }

@@ -52,8 +52,8 @@ fn again(call: u8, body: &mut Body) -> Case {
             let (count, levels) = (body.scalar(), body.scalar());
             moves_call(count, levels, body.mesh_tables(), body.table(u32::from_le_bytes), &body.moves())
         }
-        READ => read_call(&body.table(u8::from_le_bytes), body.mesh_tables()),
-        WRITE => write_call(body.scalar(), body.mesh_tables(), body.table(u8::from_le_bytes)),
+        READ | READ_OFF => read_call(call, &body.table(u8::from_le_bytes), body.mesh_tables()),
+        WRITE | WRITE_OFF => write_call(call, body.scalar(), body.mesh_tables(), body.table(u8::from_le_bytes)),
         LISTING => listing_call(&body.table(u8::from_le_bytes)),
         SPLIT_EDGE | SPLIT_FACE | FLIP => {
             let count = body.scalar();
@@ -106,8 +106,8 @@ pub fn flagged(file: &[u8], list: &str) -> Vec<u8> {
     out
 }
 
-/// Compares every case of a file but those of later calls and of another rounding; answers how many were compared, how
-/// many skipped, and which differ.
+/// Compares every case of a file but those of another rounding; answers how many were compared, how many skipped, and which
+/// differ.
 pub fn compare(file: &[u8]) -> (usize, usize, Vec<usize>) {
     let mut file = Body(file);
     assert_eq!(file.take(8), b"RNGCASE1");
@@ -117,7 +117,8 @@ pub fn compare(file: &[u8]) -> (usize, usize, Vec<usize>) {
         let mut body = Body(file.take(length));
         let head = body.take(4);
         let (call, flags) = (head[0], head[1]);
-        if call > FLIP || flags & UP != 0 {
+        assert!((MAKE..=WRITE_OFF).contains(&call), "no such call");
+        if flags & UP != 0 {
             skipped += 1;
         } else if !agrees(&again(call, &mut body), &mut body) {
             different.push(i);

@@ -1,7 +1,8 @@
-//! The small meshes of document 01 with the answers that it and order 1 give, held against the reference itself.
+//! The small meshes of document 01 with the answers that it and orders 1 and 4 give, held against the reference itself.
 
 use crate::calls::{self, Tables};
 use crate::document::*;
+use crate::off;
 use crate::reshape;
 
 fn mesh(rings: &[&[usize]], points: &[Point], rows: usize) -> Tables {
@@ -99,9 +100,23 @@ fn listings() {
     assert_eq!(calls::listing(&bytes[..8]), "refused 17 8\n");
 }
 
+/// The tetrahedron's text, written and read; without its last line, and with nothing at all.
+fn texts() {
+    let text = "OFF\n4 4 6\n0 0 0\n1024 0 0\n0 1024 0\n0 0 1024\n3 0 1 3\n3 0 2 1\n3 0 3 2\n3 1 2 3\n";
+    let (mut room, mut t) = ([0; 100], tetrahedron(4));
+    assert_eq!(off::write(&t, 4, &mut room), Ok(text.len()));
+    assert_eq!(room[..text.len()], *text.as_bytes());
+    t.set_ring(3, &[2, 1, 0]);
+    assert_eq!(off::read(text.as_bytes(), &mut t), Ok(4));
+    has(&t, &[(0, &[1, 2, 3]), (1, &[0, 3, 2]), (2, &[0, 1, 3]), (3, &[0, 2, 1])]);
+    assert_eq!(off::read(text.trim_end_matches("3 1 2 3\n").as_bytes(), &mut t), refuse(20, 10));
+    assert_eq!(off::read(b"", &mut t), refuse(20, 1));
+}
+
 pub fn hold() {
     meshes();
     reshapings();
     floats();
     listings();
+    texts();
 }

@@ -21,6 +21,8 @@ pub const LISTING: u8 = 15;
 pub const SPLIT_EDGE: u8 = 16;
 pub const SPLIT_FACE: u8 = 17;
 pub const FLIP: u8 = 18;
+pub const READ_OFF: u8 = 19;
+pub const WRITE_OFF: u8 = 20;
 
 const RAGGED: u8 = 1;
 const WIDE: u8 = 2;

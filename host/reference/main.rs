@@ -1,5 +1,5 @@
-//! An independent implementation of document 01 and of orders 1 and 2 of document 02, and cases with the answers that it
-//! gives.
+//! An independent implementation of document 01 and of orders 1, 2 and 4 of document 02, and cases with the answers that
+//! it gives.
 //!
 //!   reference cases SEED ROUNDS FILE              writes seeded cases
 //!   reference sample SEED ROUNDS EACH MOST FILE   writes EACH of them for each answer of each call, of at most MOST bytes
@@ -16,6 +16,8 @@ mod examples;
 mod format;
 mod meshes;
 mod move_cases;
+mod off;
+mod off_cases;
 mod random;
 mod reshape;
 mod reshape_cases;

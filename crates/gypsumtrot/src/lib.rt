@@ -5,3 +5,4 @@ pub mod meshes;
 pub mod reshaping;
 pub mod ring_edits;
 pub mod ring_queries;
+pub mod texts;

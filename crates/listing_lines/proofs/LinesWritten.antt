@@ -1,5 +1,5 @@
 -- The lines of the listing, written part after part. Assumes nothing.
-use Prim.Native.Nat.{ℕ, _+_, _-_, _*_, _≤_}
+use Prim.Native.Nat.{ℕ, _+_, _*_, _≤_}
 use mathlib.Core.Path.{_≡_, refl, sym, ap}
 use mathlib.Core.List.{List}
 use native.Mathlib.Nat.{add-zero}
@@ -8,13 +8,13 @@ use lib.ListN.{length, getD, set, length-set}
 use Rattle.meshfile.specs.Blocks.{Put}
 use Rattle.meshfile.proofs.Blocks.{put-one, then}
 use Rattle.numerals.specs.Wrote.{Wrote}
-use Rattle.numerals.specs.Numerals.{number, signed}
+use Rattle.numerals.specs.Numerals.{blank, newline, number, signed}
 use Rattle.numerals.proofs.Writing.{wrote-is, wrote-then}
 use lib.IntN.{ℤ, pos}
 use Rattle.rings.specs.Table.{coordinateAt}
 use Rattle.rings.specs.Refusal.{numberOf, placeOf}
 use Rattle.rings.specs.declared.Refusal.{Refusal}
-use Rattle.listing_lines.specs.Lines.{blank, newline, vertexLine, word, refusedLine}
+use Rattle.listing_lines.specs.Lines.{vertexLine, word, refusedLine}
 
 pub vertex-wrote : {l m₁ m₂ m₃ m₄ m : List ℕ} {i k₁ k₂ k₃ k₄ k : ℕ} (vs : List ℕ) (ps : List ℤ) (base j : ℕ) → Wrote l i (number j blank) m₁ k₁ 21
     → Wrote m₁ k₁ (signed (getD ps ((base + j) * 3) (pos 0)) blank) m₂ k₂ 22

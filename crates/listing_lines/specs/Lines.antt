@@ -7,14 +7,7 @@ use lib.ListN.{getD}
 use Rattle.rings.specs.Table.{coordinateAt}
 use Rattle.rings.specs.declared.Refusal.{Refusal}
 use Rattle.rings.specs.Refusal.{numberOf, placeOf}
-use Rattle.numerals.specs.Numerals.{number, signed}
-
--- a blank, and a newline
-abbrev pub blank : ℕ
-blank = 32
-
-abbrev pub newline : ℕ
-newline = 10
+use Rattle.numerals.specs.Numerals.{blank, newline, number, signed}
 
 -- level, V, E and F
 unfoldable pub countsLine : ℕ → ℕ → ℕ → ℕ → List ℕ

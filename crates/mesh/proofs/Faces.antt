@@ -48,7 +48,7 @@ smallest v u w c d e f =
     (lt-split u (min w v))))
     (lt-split v (min u w))
 
-cond-zero : (b : Bool) (c : ℕ) → c ≡ 0 → cond b c 0 ≡ 0
+pub cond-zero : (b : Bool) (c : ℕ) → c ≡ 0 → cond b c 0 ≡ 0
 cond-zero true c e = e
 cond-zero false c e = refl
 
@@ -57,11 +57,11 @@ module _ (M : Mesh) (S : Sound M) where
   unfoldable pub tri : ℕ → ℕ → ℕ → ℕ
   tri v u w = cond (eqb w (next (M .ring v) u)) (times u (M .ring v)) 0
 
-  tri-yes : (v u w : ℕ) → u ∈ M .ring v → w ≡ next (M .ring v) u → tri v u w ≡ times u (M .ring v)
+  pub tri-yes : (v u w : ℕ) → u ∈ M .ring v → w ≡ next (M .ring v) u → tri v u w ≡ times u (M .ring v)
   unfolding tri
   tri-yes v u w m e = rw (eq-eqb w (next (M .ring v) u) e)
 
-  tri-cases : (v u w : ℕ) → (tri v u w ≡ 0) ⊎ ((u ∈ M .ring v) × (w ≡ next (M .ring v) u))
+  pub tri-cases : (v u w : ℕ) → (tri v u w ≡ 0) ⊎ ((u ∈ M .ring v) × (w ≡ next (M .ring v) u))
   unfolding tri
   tri-cases v u w =
       ⊎-elim
@@ -86,7 +86,7 @@ module _ (M : Mesh) (S : Sound M) where
   unfoldable pub low : ℕ → ℕ → ℕ → ℕ
   low v u w = cond (ltb v (min u w)) (tri v u w) 0
 
-  tri-low : (v u w : ℕ) → v < M .count → u < M .count → w < M .count → tri v u w ≡ (low v u w + low u w v) + low w v u
+  pub tri-low : (v u w : ℕ) → v < M .count → u < M .count → w < M .count → tri v u w ≡ (low v u w + low u w v) + low w v u
   unfolding low
   tri-low v u w h g k =
       rw (← tri-turn v u w h g k, tri-turn w v u k h g)
@@ -98,7 +98,7 @@ module _ (M : Mesh) (S : Sound M) where
       (edge-ne M S v w h (subst (λ x. x ∈ M .ring v) (sym (r .1)) (next-in (M .ring v) u (r .0)))))
       (tri-cases v u w))
 
-  all-third : (v u : ℕ) → v < M .count → sum (λ w. tri v u w) (M .count) ≡ times u (M .ring v)
+  pub all-third : (v u : ℕ) → v < M .count → sum (λ w. tri v u w) (M .count) ≡ times u (M .ring v)
   unfolding tri
   all-third v u h =
       ⊎-elim

@@ -7,12 +7,12 @@ use mathlib.Core.List.{List·Permᴰ, List·Permᴰ·trans, Permᴰ·symm, Perm�
 use mathlib.Core.Logic.{⊎-elim}
 use Prim.Native.Nat.{ℕ, zero, suc, _≤_, _<_}
 use native.Mathlib.Omega.{arith}
-use lib.ListN.{length, getD, take, drop, length-append, take-append-drop, List·getD-append}
-use lib.Seq.{take-append-seam, drop-append-seam, getD-append-seam, split-at}
+use lib.ListN.{length, getD, take, drop, length-append, length-drop, take-append-drop, List·getD-append}
+use lib.Seq.{take-append-seam, drop-append-seam, getD-append-seam, getD-drop, ext-getD, split-at}
 use borrow.Author.Tests.{eq-eqb, ne-eqb}
-use Rattle.mesh.specs.Ring.{_∈_, Distinct, place, placeAfter, next, prev, SameRound}
-use Rattle.mesh.proofs.Lists.{eq-split, lt-split}
-use Rattle.mesh.proofs.Rings.{in-cons, place-lt, getD-place, next-in, prev-in, next-prev}
+use Rattle.mesh.specs.Ring.{times, _∈_, Distinct, place, placeAfter, next, prev, SameRound}
+use Rattle.mesh.proofs.Lists.{eq-split, lt-split, here}
+use Rattle.mesh.proofs.Rings.{in-cons, place-lt, getD-in, getD-place, next-in, prev-in, next-prev}
 use Rattle.mesh.proofs.RingsGoRound.{next-inner, next-of-last, next-of-one, prev-of-one, prev-is-what-it-follows}
 use Rattle.mesh.proofs.Shuffled.{length-shuffled, in-shuffled, distinct-shuffled}
 
@@ -105,6 +105,48 @@ next-exchanged (a ∷ xs) ys o x i =
 -- where a ring begins is nothing to what follows
 pub next-round : (l m : List ℕ) → SameRound l m → Distinct l → (x : ℕ) → x ∈ l → next m x ≡ next l x
 next-round = by-parts (λ l m. Distinct l → (x : ℕ) → x ∈ l → next m x ≡ next l x) next-exchanged
+
+-- two lists of entries that differ, equally long, that begin alike and go on alike are the same
+same-walk : (l m : List ℕ) → Distinct l → Distinct m → length m ≡ length l → getD m 0 0 ≡ getD l 0 0
+    → ((x : ℕ) → x ∈ l → next m x ≡ next l x) → m ≡ l
+same-walk l m o d e b n = ext-getD 0 m l e (λ i h. go i h)
+  where
+    go : (i : ℕ) → i < length m → getD m i 0 ≡ getD l i 0
+    go zero h = b
+    go (suc i) h =
+        let k : getD m i 0 ≡ getD l i 0 = go i (omega arith) in
+        sym (next-inner m d i h) ∙ ap (next m) k ∙ n (getD l i 0) (getD-in l i 0 (omega arith)) ∙ next-inner l o i (omega arith)
+
+-- rings of as many and the same entries, each of which is followed by the same one, are the same up to where they begin
+module _ (l : List ℕ) (o : Distinct l) where
+  turned-at : (y : ℕ) (m : List ℕ) → length (y ∷ m) ≡ length l → ((x : ℕ) → times x (y ∷ m) ≡ times x l)
+      → ((x : ℕ) → x ∈ l → next (y ∷ m) x ≡ next l x) → SameRound l (y ∷ m)
+  turned-at y m e t n =
+      let there-y : y ∈ l = omega (arith, t y, here y m) in
+      let i = place-lt y l there-y in
+      let r : List ℕ = drop (place y l) l ++ take (place y l) l in
+      let R : SameRound l r = record { start = place y l; within = omega arith; turned = refl } in
+      let p : List·Permᴰ l r = round-shuffled l r R in
+      let first-is : y ≡ getD r 0 0 = sym (getD-place y l 0 there-y) ∙ sym (front (place y l) l i) in
+      record {
+        start = place y l;
+        within = omega arith;
+        turned =
+            same-walk r (y ∷ m) (distinct-shuffled p o) (λ x. omega (arith, t x, o x)) (e ∙ length-shuffled p) first-is (λ x g.
+            let there-x : x ∈ l = in-shuffled x (Permᴰ·symm p) g in
+            n x there-x ∙ sym (next-round l r R o x there-x));
+      }
+    where
+      front : (k : ℕ) (l : List ℕ) → k < length l → getD (drop k l ++ take k l) 0 0 ≡ getD l k 0
+      front k l h = List·getD-append (drop k l) (take k l) 0 0 (omega (arith, length-drop k l)) ∙ getD-drop k l 0 0 ∙ ap (λ j. getD l j 0) (omega arith)
+
+  pub round-by-next : (m : List ℕ) → length m ≡ length l → ((x : ℕ) → times x m ≡ times x l) → ((x : ℕ) → x ∈ l → next m x ≡ next l x) → SameRound l m
+  round-by-next [] e t n = same-round l [] (sym (nothing l (sym e)))
+    where
+      nothing : (l : List ℕ) → length l ≡ 0 → l ≡ []
+      nothing [] h = refl
+      nothing (a ∷ l) h = absurd (omega arith)
+  round-by-next (y ∷ m) e t n = turned-at y m e t n
 
 -- ---- the other way round
 

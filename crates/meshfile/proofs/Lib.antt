@@ -5,3 +5,4 @@ pub mod Numbers
 pub mod Signed
 pub mod Finding
 pub mod Judging
+pub mod InTables

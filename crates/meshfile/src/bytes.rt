@@ -33,7 +33,7 @@ pub fn four_at(bytes: &[u8], at: usize) -> usize
 }
 
 // The coordinate with these 32 bits.
-fn coordinate_of(bits: usize) -> i32
+pub fn coordinate_of(bits: usize) -> i32
     requires { ⌜ bits < 4294967296 ⌝ }
     ensures { λ r. ⌜ r ≡ coordinateOf bits ⌝ }
 {

@@ -1,19 +1,23 @@
--- The laws of `Wrote`: what is written one after the other is one block; and of digits and coordinates. Assumes nothing.
-use Prim.Native.Nat.{ℕ, zero, suc, _+_, _-_, _*_, _/_, _%_, _≤_, _<_}
+-- The laws of `Wrote`: what is written one after the other is one block; and of numbers and coordinates. Assumes nothing.
+use Prim.Native.Nat.{ℕ, suc, _+_, _-_, _*_, _≤_, _<_}
 use mathlib.Core.Path.{_≡_, refl, sym, ap, subst, _∙_}
 use mathlib.Core.List.{List, [], _∷_, _++_}
 use native.Mathlib.Nat.{add-zero, suc-mul, le-antisymm}
-use native.Mathlib.Numerals.{add-one, sub-one}
+use native.Mathlib.Numerals.{add-one}
 use native.Mathlib.Omega.{arith}
-use borrow.Author.Tests.{lt-ltb, le-ltb}
 use lib.ListN.{length, set, length-append}
 use Rattle.meshfile.proofs.Blocks.{put-none, put-one, put-length, then}
 use Rattle.numerals.specs.Wrote.{Wrote}
-use Rattle.meshfile.specs.Bytes.{coordinateOf}
-use Rattle.meshfile.proofs.Signed.{low, high}
+use mir.Syntax.{w32}
+use mir.Val.{SFits, toZ, ofZ}
+use mir.ValLaws.{toZ-ofZ}
+use Rattle.meshfile.specs.Blocks.{Put}
+use Rattle.meshfile.specs.Bytes.{bitsOf, coordinateOf}
+use Rattle.meshfile.proofs.Signed.{low, high, bits-lt, coordinate-bits}
 use lib.IntN.{ℤ}
 use Rattle.rings.specs.Table.{gather}
-use Rattle.numerals.specs.Numerals.{minus, digit, digits, number, signed}
+use Rattle.numerals.specs.Numerals.{minus, digits, number, signed}
+use Rattle.numerals.proofs.Digits.{digits-most}
 
 pub wrote-length : {l m : List ℕ} {i k n : ℕ} {a : List ℕ} → Wrote l i a m k n → length m ≡ length l
 wrote-length w = put-length (w .put)
@@ -44,28 +48,21 @@ wrote-wide {l} {m} {i} {k} {p} {a} most h w = record { put = w .put; ends = w .e
 -- ---- rows
 
 -- one row more, and the last
-pub rows-more : {l m n : List ℕ} {i k e : ℕ} (f : ℕ → List ℕ) (j most : ℕ) → Wrote l i (gather f j) m k (j * most) → Wrote m k (f j) n e most → Wrote l i (gather f (j + 1)) n e ((j + 1) * most)
+pub rows-more : {l m n : List ℕ} {i k e : ℕ} (f : ℕ → List ℕ) (j most : ℕ) → Wrote l i (gather f j) m k (j * most) → Wrote m k (f j) n e most
+    → Wrote l i (gather f (j + 1)) n e ((j + 1) * most)
 rows-more f j most v w = rw add-one (wrote-then (suc j * most) v w (let e = suc-mul j most in omega arith))
 
-pub rows-all : {l m : List ℕ} {i k : ℕ} (f : ℕ → List ℕ) (j n most : ℕ) → Wrote l i (gather f j) m k (j * most) → j ≤ n → n ≤ j → Wrote l i (gather f n) m k (n * most)
+pub rows-all : {l m : List ℕ} {i k : ℕ} (f : ℕ → List ℕ) (j n most : ℕ) → Wrote l i (gather f j) m k (j * most) → j ≤ n → n ≤ j
+    → Wrote l i (gather f n) m k (n * most)
 rows-all {l} {m} {i} {k} f j n most w a b = subst (λ (x : ℕ). Wrote l i (gather f x) m k (x * most)) (le-antisymm a b) w
 
--- ---- digits
+-- ---- numbers
 
-pub digits-none : (n most : ℕ) → most ≡ 0 → [] ≡ digits most n
-unfolding digits
-digits-none n zero e = refl
-digits-none n (suc k) e = absurd (omega arith)
-
-pub digits-one : (n most : ℕ) → (most ≡ 0 → ⊥) → n < 10 → digit n ∷ [] ≡ digits most n
-unfolding digits
-digits-one n zero f h = absurd (f refl)
-digits-one n (suc k) f h = rw (lt-ltb n 10 h)
-
-pub digits-more : (n most : ℕ) → (most ≡ 0 → ⊥) → 10 ≤ n → digits (most - 1) (n / 10) ++ (digit (n % 10) ∷ []) ≡ digits most n
-unfolding digits
-digits-more n zero f h = absurd (f refl)
-digits-more n (suc k) f h = rw (sub-one (suc k), le-ltb n 10 h)
+pub number-wrote : {l m₁ m : List ℕ} {i k e : ℕ} (n last : ℕ) → Put l i (digits 20 n) m₁ → k ≡ length (digits 20 n) → Wrote m₁ (i + k) (last ∷ []) m e 1
+    → Wrote l i (number n last) m e 21
+unfolding number
+number-wrote {l} {m₁} {m} {i} {k} n last p e w =
+    wrote-then {p = 20} 21 (record { put = p; ends = ap (λ (x : ℕ). i + x) e; within = omega (arith, e, digits-most 20 n) }) w (omega arith)
 
 -- ---- coordinates
 
@@ -78,3 +75,13 @@ unfolding signed
 signed-high n last h g =
     let e : 4294967296 - n ≡ suc (4294967295 - n) = omega arith in
     ap (λ (k : ℕ). (minus ∷ []) ++ number k last) e ∙ ap (λ (z : ℤ). signed z last) (high n h)
+
+-- the bits of z
+pub record Bits (z : ℤ) (bits : ℕ) : Type 0 where
+  pub below : bits < 4294967296
+  pub is : coordinateOf bits ≡ z
+
+pub bits-are : {bits : ℕ} (z : ℤ) → SFits w32 z → bits ≡ bitsOf (toZ w32 (ofZ w32 z)) → Bits z bits
+bits-are {bits} z f e =
+    let g : bits ≡ bitsOf z = e ∙ ap bitsOf (toZ-ofZ w32 z f) in
+    record { below = omega (arith, g, bits-lt z f); is = ap coordinateOf g ∙ coordinate-bits z f }

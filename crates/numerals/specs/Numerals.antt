@@ -1,4 +1,4 @@
--- Numbers as bytes (document 01, the listing): decimal numerals, and the byte behind each.
+-- Numbers as bytes (document 01, the listing; document 02, order 4): decimal numerals, and the byte behind each.
 -- Assumes nothing.
 use mathlib.Core.Bool.{cond}
 use mathlib.Core.List.{List, [], _∷_, _++_}
@@ -12,6 +12,13 @@ minus = 45
 
 abbrev pub digit : ℕ → ℕ
 digit d = 48 + d
+
+-- a blank, and a newline
+abbrev pub blank : ℕ
+blank = 32
+
+abbrev pub newline : ℕ
+newline = 10
 
 -- the decimal digits of n, at most k of them, with no zeros in front
 unfoldable pub digits : ℕ → ℕ → List ℕ

@@ -4,6 +4,7 @@ ghost use mathlib.Core.List.{[], _∷_};
 ghost use Prim.Native.Nat.{_+_, _<_, _≤_};
 ghost use lib.IntN.{pos};
 ghost use lib.ListN.{length, getD};
+ghost use Rattle.meshfile.specs.Blocks.{Put};
 ghost use Rattle.meshfile.specs.Bytes.{coordinateOf};
 ghost use Rattle.numerals.specs.Numerals.{digits, number, signed};
 ghost use Rattle.numerals.specs.Wrote.{Wrote};
@@ -36,33 +37,54 @@ fn digit(d: usize) -> u8
     48 + d as u8
 }
 
-// The digits of n, at most so many.
-fn put_digits(text: &mut [u8], at: usize, n: usize, most: usize) -> usize
-    requires { ⌜ at + most ≤ length (now text) ⌝ }
-    ensures { λ r. ⌜ Wrote (now (text .entry)) at (digits most n) (now (text .exit)) r most ⌝ }
+// How many digits a number has.
+pub fn digit_count(n: usize) -> usize
+    ensures { λ r. ⌜ r ≡ length (digits 20 n) ⌝ }
+    ensures { λ r. ⌜ r ≤ 20 ⌝ }
 {
-    if most == 0 {
-        return at;
+    let mut count = 1;
+    let mut bound = 10;
+    while count < MOST_DIGITS - 1 {
+        if n < bound {
+            return count;
+        }
+        bound = bound * 10;
+        count += 1;
     }
-    if n < 10 {
-        return put_byte(text, at, digit(n));
+    if n < bound {
+        return count;
     }
-    let end = put_digits(text, at, n / 10, most - 1);
-    put_byte(text, end, digit(n % 10))
+    count + 1
+}
+
+// The digits of n, of which there are so many, from the last to the first.
+fn put_digits(text: &mut [u8], at: usize, n: usize, count: usize)
+    requires { ⌜ count ≡ length (digits 20 n) ⌝ }
+    requires { ⌜ at + count ≤ length (now text) ⌝ }
+    ensures { λ r. ⌜ Put (now (text .entry)) at (digits 20 n) (now (text .exit)) ⌝ }
+{
+    let mut rest = n;
+    let mut k = count;
+    while 0 < k {
+        k -= 1;
+        text[at + k] = digit(rest % 10);
+        rest = rest / 10;
+    }
 }
 
 // A number, and the byte behind it.
 pub fn put_number(text: &mut [u8], at: usize, n: usize, last: u8) -> usize
-    requires { ⌜ at + 21 ≤ length (now text) ⌝ }
+    requires { ⌜ at + length (number n last) ≤ length (now text) ⌝ }
     ensures { λ r. ⌜ Wrote (now (text .entry)) at (number n last) (now (text .exit)) r 21 ⌝ }
 {
-    let end = put_digits(text, at, n, MOST_DIGITS);
-    put_byte(text, end, last)
+    let count = digit_count(n);
+    put_digits(text, at, n, count);
+    put_byte(text, at + count, last)
 }
 
 // A coordinate by its 32 bits, and the byte behind it.
 fn put_signed(text: &mut [u8], at: usize, bits: usize, last: u8) -> usize
-    requires { ⌜ at + 22 ≤ length (now text) ⌝ }
+    requires { ⌜ at + length (signed (coordinateOf bits) last) ≤ length (now text) ⌝ }
     requires { ⌜ bits < 4294967296 ⌝ }
     ensures { λ r. ⌜ Wrote (now (text .entry)) at (signed (coordinateOf bits) last) (now (text .exit)) r 22 ⌝ }
 {
@@ -73,10 +95,31 @@ fn put_signed(text: &mut [u8], at: usize, bits: usize, last: u8) -> usize
     put_number(text, end, WHOLE - bits, last)
 }
 
+// How many bytes a coordinate by its 32 bits takes, with the byte behind it.
+fn signed_length(bits: usize) -> usize
+    requires { ⌜ bits < 4294967296 ⌝ }
+    ensures { λ r. ⌜ r ≡ length (signed (coordinateOf bits) 0) ⌝ }
+    ensures { λ r. ⌜ r ≤ 22 ⌝ }
+{
+    if bits < LEAST_NEGATIVE {
+        return digit_count(bits) + 1;
+    }
+    digit_count(WHOLE - bits) + 2
+}
+
+// How many bytes the coordinate at a place of the positions takes, with the byte behind it.
+pub fn coordinate_length(positions: &[i32], i: usize) -> usize
+    requires { ⌜ i < length (now positions) ⌝ }
+    ensures { λ r. ⌜ r ≡ length (signed (getD (now (positions .entry)) i (pos 0)) 0) ⌝ }
+    ensures { λ r. ⌜ r ≤ 22 ⌝ }
+{
+    signed_length(bits_of(positions[i]))
+}
+
 // The coordinate at a place of the positions, and the byte behind it.
 pub fn put_coordinate(text: &mut [u8], at: usize, positions: &[i32], i: usize, last: u8) -> usize
-    requires { ⌜ at + 22 ≤ length (now text) ⌝ }
     requires { ⌜ i < length (now positions) ⌝ }
+    requires { ⌜ at + length (signed (getD (now positions) i (pos 0)) last) ≤ length (now text) ⌝ }
     ensures { λ r. ⌜ Wrote (now (text .entry)) at (signed (getD (now (positions .entry)) i (pos 0)) last) (now (text .exit)) r 22 ⌝ }
 {
     put_signed(text, at, bits_of(positions[i]), last)

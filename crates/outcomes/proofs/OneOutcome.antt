@@ -43,21 +43,23 @@ module _ {n levels : ℕ} {vs rs map map′ map″ : List ℕ} {ps ps′ ps″ :
   pub one-list : Applied n levels vs rs ps map ms a ps′ map′ → Applied n levels vs rs ps map ms b ps″ map″ → (a ≡ b) × (paperAmount a ≡ paperAmount b) × (ps′ ≡ ps″) × (map′ ≡ map″)
   one-list x y = let q = one-answer (x .answers) (y .answers) in (q, ap paperAmount q, one-answer (x .positions) (y .positions), one-answer (x .marks) (y .marks))
 
-module _ {s vs rs vs′ rs′ vs″ rs″ : List ℕ} {ps ps′ ps″ : List ℤ} {a b : Amount} where
-  pub one-reading : ReadIn s vs rs ps a vs′ rs′ ps′ → ReadIn s vs rs ps b vs″ rs″ ps″ → (a ≡ b) × (paperAmount a ≡ paperAmount b) × (vs′ ≡ vs″) × (rs′ ≡ rs″) × (ps′ ≡ ps″)
+-- a mesh file or a face list, read or written
+module _ {promised a b : Amount} {vs rs vs′ rs′ vs″ rs″ : List ℕ} {ps ps′ ps″ : List ℤ} where
+  pub one-reading : ReadIn promised vs rs ps a vs′ rs′ ps′ → ReadIn promised vs rs ps b vs″ rs″ ps″
+      → (a ≡ b) × (paperAmount a ≡ paperAmount b) × (vs′ ≡ vs″) × (rs′ ≡ rs″) × (ps′ ≡ ps″)
   one-reading x y =
       let q = one-answer (x .answers) (y .answers) in
       (q, ap paperAmount q, one-answer (x .valences) (y .valences), one-answer (x .rings) (y .rings), one-answer (x .positions) (y .positions))
 
-module _ {n : ℕ} {vs rs room room′ room″ : List ℕ} {ps : List ℤ} {a b : Amount} where
-  pub one-writing : WrittenOut n vs rs ps room a room′ → WrittenOut n vs rs ps room b room″ → (a ≡ b) × (paperAmount a ≡ paperAmount b) × (room′ ≡ room″)
+module _ {promised a b : Amount} {room room′ room″ : List ℕ} where
+  pub one-writing : WrittenOut promised room a room′ → WrittenOut promised room b room″ → (a ≡ b) × (paperAmount a ≡ paperAmount b) × (room′ ≡ room″)
   one-writing x y = let q = one-answer (x .answers) (y .answers) in (q, ap paperAmount q, one-answer (x .bytes) (y .bytes))
 
 module _ {input text text′ text″ : List ℕ} {a b : ℕ} where
   pub one-listing : Listed input text a text′ → Listed input text b text″ → (a ≡ b) × (text′ ≡ text″)
   one-listing x y = (one-answer (x .answers) (y .answers), one-answer (x .bytes) (y .bytes))
 
--- ---- the C interface: twelve calls answer a value, gt_check, gt_refine and the edits of the mesh the counts; those that write no table have the empty one
+-- ---- the C interface: fourteen calls answer a value, gt_check, gt_refine and the edits of the mesh the counts; those that write no table have the empty one
 
 module _ {T : Type 0} {promised : Paper} {tables tables′ tables″ : T} where
   pub one-exported-value : {a b : ValueAnswer} → Exported valuePaper promised tables a tables′

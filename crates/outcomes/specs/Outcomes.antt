@@ -16,6 +16,8 @@ use Rattle.reshape_tables.specs.Calls.{Reshaping, reshapeAnswer, reshapedValenc
 use Rattle.moves.specs.Apply.{applyAnswer, applyPositions, applyMap}
 use Rattle.plan.specs.declared.Move.{Move}
 use Rattle.file_reading.specs.Read.{readAnswer, readValences, readRings, readPositions}
+use Rattle.off_text.specs.ReadOff.{readOffAnswer, readOffValences, readOffRings, readOffPositions}
+use Rattle.off_text.specs.WriteOff.{writeOffAnswer, writeOffRoom}
 use Rattle.file_writing.specs.Write.{writeAnswer, writeRoom}
 use Rattle.listing_text.specs.Listing.{listingText}
 
@@ -46,17 +48,33 @@ pub record Applied (n levels : ℕ) (vs rs : List ℕ) (ps : List ℤ) (map : Li
   pub positions : ps′ ≡ applyPositions n levels vs rs ps map ms
   pub marks : map′ ≡ applyMap n levels vs rs ps map ms
 
--- reading a file
-pub record ReadIn (s vs rs : List ℕ) (ps : List ℤ) (answer : Amount) (vs′ rs′ : List ℕ) (ps′ : List ℤ) : Type 0 where
-  pub answers : answer ≡ readAnswer s vs rs ps
-  pub valences : vs′ ≡ readValences s vs rs ps
-  pub rings : rs′ ≡ readRings s vs rs ps
-  pub positions : ps′ ≡ readPositions s vs rs ps
+-- reading: the promised answer, and the three tables as promised
+pub record ReadIn (promised : Amount) (vs rs : List ℕ) (ps : List ℤ) (answer : Amount) (vs′ rs′ : List ℕ) (ps′ : List ℤ) : Type 0 where
+  pub answers : answer ≡ promised
+  pub valences : vs′ ≡ vs
+  pub rings : rs′ ≡ rs
+  pub positions : ps′ ≡ ps
 
--- writing a file
-pub record WrittenOut (n : ℕ) (vs rs : List ℕ) (ps : List ℤ) (room : List ℕ) (answer : Amount) (room′ : List ℕ) : Type 0 where
-  pub answers : answer ≡ writeAnswer n vs rs ps room
-  pub bytes : room′ ≡ writeRoom n vs rs ps room
+-- a mesh file read, and a face list
+module _ (s vs rs : List ℕ) (ps : List ℤ) where
+  abbrev pub FileRead : Amount → List ℕ → List ℕ → List ℤ → Type 0
+  FileRead = ReadIn (readAnswer s vs rs ps) (readValences s vs rs ps) (readRings s vs rs ps) (readPositions s vs rs ps)
+
+  abbrev pub OffRead : Amount → List ℕ → List ℕ → List ℤ → Type 0
+  OffRead = ReadIn (readOffAnswer s vs rs ps) (readOffValences s vs rs ps) (readOffRings s vs rs ps) (readOffPositions s vs rs ps)
+
+-- writing: the promised answer, and the room as promised
+pub record WrittenOut (promised : Amount) (room : List ℕ) (answer : Amount) (room′ : List ℕ) : Type 0 where
+  pub answers : answer ≡ promised
+  pub bytes : room′ ≡ room
+
+-- a mesh file written, and a face list
+module _ (n : ℕ) (vs rs : List ℕ) (ps : List ℤ) (room : List ℕ) where
+  abbrev pub FileWritten : Amount → List ℕ → Type 0
+  FileWritten = WrittenOut (writeAnswer n vs rs ps room) (writeRoom n vs rs ps room)
+
+  abbrev pub OffWritten : Amount → List ℕ → Type 0
+  OffWritten = WrittenOut (writeOffAnswer n vs rs ps room) (writeOffRoom n vs rs ps room)
 
 -- the listing
 pub record Listed (input text : List ℕ) (answer : ℕ) (text′ : List ℕ) : Type 0 where

@@ -27,6 +27,8 @@ pub fn number(refusal: Refusal) -> u32
         Refusal::BadFile(_) => 17,
         Refusal::NoEdgeOrFace => 18,
         Refusal::CannotFlip => 19,
+        Refusal::BadText(_) => 20,
+        Refusal::OpenRing(_) => 21,
     }
 }
 
@@ -54,5 +56,7 @@ pub fn place(refusal: Refusal) -> usize
         Refusal::BadFile(at) => at,
         Refusal::NoEdgeOrFace => 0,
         Refusal::CannotFlip => 0,
+        Refusal::BadText(at) => at,
+        Refusal::OpenRing(at) => at,
     }
 }

@@ -5,7 +5,7 @@ use Rattle.rings.specs.declared.Refusal.{Refusal}
 use Rattle.rings.specs.declared.Refusal.the-variants.{ControlTooShort, BadCount, NoVertex, ImproperRing, OneSided}
 use Rattle.rings.specs.declared.Refusal.the-variants.{OpenFace, TooFar, BadLevels, LevelTooLarge, NoRoom}
 use Rattle.rings.specs.declared.Refusal.the-variants.{NotAsRefined, TooManyMoves, NotFinite, Outside, AlreadyThere}
-use Rattle.rings.specs.declared.Refusal.the-variants.{RingFull, BadFile, NoEdgeOrFace, CannotFlip}
+use Rattle.rings.specs.declared.Refusal.the-variants.{RingFull, BadFile, NoEdgeOrFace, CannotFlip, BadText, OpenRing}
 
 -- number, place, and what the call gives: V, E and F, or one number in the first of the three
 pub record Paper : Type 0 where
@@ -23,7 +23,7 @@ accepted a b c = record { number = 0; place = 0; first = a; second = b; third = 
 abbrev pub refused : ℕ → ℕ → ℕ → Paper
 refused number place d = record { number = number; place = place; first = d; second = 0; third = 0 }
 
--- the number of each reason: 1 to 17 as document 01's table has them, 18 and 19 as document 02's order 1
+-- the number of each reason: 1 to 17 as document 01's table has them, 18 and 19 as document 02's order 1, 20 and 21 as its order 4
 abbrev pub numberOf : Refusal → ℕ
 numberOf ControlTooShort = 1
 numberOf BadCount = 2
@@ -44,6 +44,8 @@ numberOf RingFull = 16
 numberOf (BadFile at) = 17
 numberOf NoEdgeOrFace = 18
 numberOf CannotFlip = 19
+numberOf (BadText line) = 20
+numberOf (OpenRing v) = 21
 
 -- the place of each: what its case carries, or 0
 abbrev pub placeOf : Refusal → ℕ
@@ -66,6 +68,8 @@ placeOf RingFull = 0
 placeOf (BadFile at) = at
 placeOf NoEdgeOrFace = 0
 placeOf CannotFlip = 0
+placeOf (BadText line) = line
+placeOf (OpenRing v) = v
 
 -- what a refused call gives on paper
 abbrev pub reason : Refusal → ℕ → Paper

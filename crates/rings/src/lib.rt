@@ -34,6 +34,8 @@ pub enum Refusal {
     BadFile(usize),
     NoEdgeOrFace,
     CannotFlip,
+    BadText(usize),
+    OpenRing(usize),
 }
 
 // What a ring edit answers.

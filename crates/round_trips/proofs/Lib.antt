@@ -2,7 +2,6 @@
 pub mod Inverse
 pub mod Parts
 pub mod Written
-pub mod InTables
 pub mod ReadBack
 pub mod WriteBack
 pub mod Different

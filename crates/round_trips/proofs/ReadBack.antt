@@ -27,7 +27,7 @@ use Rattle.file_writing.specs.Write.{fileOf, overMost, writeVerdict, writeAnswe
 use Rattle.file_writing.specs.Storing.{Stored}
 use Rattle.file_writing.proofs.RowsWritten.{stored-row}
 use Rattle.meshfile.proofs.Gathered.{put-front}
-use Rattle.round_trips.proofs.InTables.{answered, in-valence, in-ring, in-point}
+use Rattle.meshfile.proofs.InTables.{answered, in-valence, in-ring, in-point}
 use Rattle.round_trips.proofs.Written.{Storable, written-count, written-ring, written-point, written-good}
 
 -- the same valences, used places and coordinates of n vertices

@@ -30,7 +30,7 @@ use Rattle.file_rings.proofs.RingRead.{length-ring}
 use Rattle.file_writing.proofs.RowsWritten.{length-payload}
 use Rattle.meshfile.proofs.Gathered.{gather-one, length-rows-below}
 use Rattle.round_trips.proofs.Inverse.{four-lt, bits-coordinate}
-use Rattle.round_trips.proofs.InTables.{answered, in-valence, in-ring, in-point}
+use Rattle.meshfile.proofs.InTables.{answered, in-valence, in-ring, in-point}
 use Rattle.round_trips.proofs.Parts.{Part, part-none, join, part-long, part-number}
 
 -- ---- an accepted layout

@@ -1,22 +1,23 @@
 -- `put_counts` meets its contract. Assumes nothing.
 use native.Mathlib.Omega.{arith}
 use Rattle.listing_lines.specs.Lines.{countsLine}
+use Rattle.numerals.proofs.Digits.{number-fits}
 use Rattle.numerals.proofs.Writing.{wrote-then}
 use borrow.Author.Needs.{needs}
 use Rattle.listing_lines.proofs.put_counts.Statement.{statement}
 use Rattle.listing_lines.proofs.put_counts.Tie as tie
 
 put-number-requires : tie.Need-put-number-requires
-put-number-requires c κs = search needs
+put-number-requires c κs = number-fits _ _ _ _ (omega arith)
 
 put-number-requires-2 : tie.Need-put-number-requires-2
-put-number-requires-2 c κs = search needs
+put-number-requires-2 c κs = number-fits _ _ _ _ (omega arith)
 
 put-number-requires-3 : tie.Need-put-number-requires-3
-put-number-requires-3 c κs = search needs
+put-number-requires-3 c κs = number-fits _ _ _ _ (omega arith)
 
 put-number-requires-4 : tie.Need-put-number-requires-4
-put-number-requires-4 c κs = search needs
+put-number-requires-4 c κs = number-fits _ _ _ _ (omega arith)
 
 same-length : tie.Need-same-length
 same-length c = search needs

@@ -1,4 +1,6 @@
 -- `put_refused` meets its contract. Assumes nothing.
+use native.Mathlib.Omega.{arith}
+use Rattle.numerals.proofs.Digits.{number-fits}
 use Rattle.listing_lines.proofs.LinesWritten.{refused-wrote}
 use borrow.Author.Needs.{needs}
 use Rattle.listing_lines.proofs.put_refused.Statement.{statement}
@@ -14,13 +16,13 @@ cast-put-number : tie.Need-cast-put-number
 cast-put-number c = search needs
 
 put-number-requires : tie.Need-put-number-requires
-put-number-requires c κs = search needs
+put-number-requires c κs = number-fits _ _ _ _ (omega arith)
 
 place-requires : tie.Need-place-requires
 place-requires c κs = search needs
 
 put-number-requires-2 : tie.Need-put-number-requires-2
-put-number-requires-2 c κs = search needs
+put-number-requires-2 c κs = number-fits _ _ _ _ (omega arith)
 
 same-length : tie.Need-same-length
 same-length c = search needs

@@ -1,6 +1,7 @@
 -- `put_vertex` meets its contract. Assumes nothing.
 use Prim.Native.Nat.{_+_}
 use native.Mathlib.Omega.{arith}
+use Rattle.numerals.proofs.Digits.{number-fits, signed-fits}
 use Rattle.listing_lines.proofs.LinesWritten.{vertex-wrote}
 use borrow.Author.Needs.{needs}
 use Rattle.listing_lines.proofs.put_vertex.Statement.{statement}
@@ -10,13 +11,13 @@ add-v : tie.Need-add-v
 add-v c = search needs
 
 put-number-requires : tie.Need-put-number-requires
-put-number-requires c κs = search needs
+put-number-requires c κs = number-fits _ _ _ _ (omega arith)
 
 mul-put-coordinate : tie.Need-mul-put-coordinate
 mul-put-coordinate c = search needs
 
 put-coordinate-requires : tie.Need-put-coordinate-requires
-put-coordinate-requires c κs = search needs
+put-coordinate-requires c κs = (search needs, signed-fits _ _ _ _ (omega arith))
 
 mul-put-coordinate-2 : tie.Need-mul-put-coordinate-2
 mul-put-coordinate-2 c = search needs
@@ -25,7 +26,7 @@ add-put-coordinate : tie.Need-add-put-coordinate
 add-put-coordinate c = search needs
 
 put-coordinate-requires-2 : tie.Need-put-coordinate-requires-2
-put-coordinate-requires-2 c κs = search needs
+put-coordinate-requires-2 c κs = (search needs, signed-fits _ _ _ _ (omega arith))
 
 mul-put-coordinate-3 : tie.Need-mul-put-coordinate-3
 mul-put-coordinate-3 c = search needs
@@ -34,7 +35,7 @@ add-put-coordinate-2 : tie.Need-add-put-coordinate-2
 add-put-coordinate-2 c = search needs
 
 put-coordinate-requires-3 : tie.Need-put-coordinate-requires-3
-put-coordinate-requires-3 c κs = search needs
+put-coordinate-requires-3 c κs = (search needs, signed-fits _ _ _ _ (omega arith))
 
 mul-put-number : tie.Need-mul-put-number
 mul-put-number c = search needs
@@ -48,7 +49,7 @@ cast-put-number c =
     (arith, c .shared-slice-known2 .given (c .before .before .before .before .before .before .before .before .before .before .before .before .before .before .before .before .before .before .before .before .args .base + c .before .before .before .before .before .before .before .before .before .before .before .before .before .before .before .before .before .before .before .before .args .j))
 
 put-number-requires-2 : tie.Need-put-number-requires-2
-put-number-requires-2 c κs = search needs
+put-number-requires-2 c κs = number-fits _ _ _ _ (omega arith)
 
 same-length : tie.Need-same-length
 same-length c = search needs

@@ -62,6 +62,12 @@ enum-told-8 c = search needs
 enum-told-9 : tie.Need-enum-told-9
 enum-told-9 c = search needs
 
+enum-known-refusal-11 : tie.Need-enum-known-refusal-11
+enum-known-refusal-11 c = search needs
+
+enum-known-refusal-12 : tie.Need-enum-known-refusal-12
+enum-known-refusal-12 c = search needs
+
 returns : tie.Need-returns
 returns c = ap placeOf (sym (c .enum-told .given .1))
 
@@ -119,6 +125,12 @@ returns-18 c = ap placeOf (sym (c .enum-told8 .given .1))
 returns-19 : tie.Need-returns-19
 returns-19 c = ap placeOf (sym (c .enum-told9 .given .1))
 
+returns-20 : tie.Need-returns-20
+returns-20 c = ap placeOf (sym (c .before .refusal11 .given .1))
+
+returns-21 : tie.Need-returns-21
+returns-21 c = ap placeOf (sym (c .before .refusal12 .given .1))
+
 pub place-spec : {M : Type 1} → statement M
 place-spec =
     tie.close
@@ -142,6 +154,8 @@ place-spec =
     enum-known-refusal-10
     enum-told-8
     enum-told-9
+    enum-known-refusal-11
+    enum-known-refusal-12
     returns
     returns-2
     returns-3
@@ -160,4 +174,6 @@ place-spec =
     returns-16
     returns-17
     returns-18
-    returns-19)
+    returns-19
+    returns-20
+    returns-21)

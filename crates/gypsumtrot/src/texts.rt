@@ -1,0 +1,41 @@
+// Reading and writing a face list as OFF text.
+ghost use mathlib.Core.Path.{_≡_};
+ghost use Rattle.rings.specs.Paper.{paperAmount};
+ghost use Rattle.off_text.specs.ReadOff.{readOffAnswer, readOffValences, readOffRings, readOffPositions};
+ghost use Rattle.off_text.specs.WriteOff.{writeOffAnswer, writeOffRoom};
+ghost use Rattle.crossing.specs.Crossing.{valuePaper};
+use crossing::ValueAnswer;
+use crossing::answers::of_amount;
+use off_reading::read_off;
+use off_writing::write_off;
+
+// Reads a face list into the tables.
+#[no_mangle]
+pub extern "C" fn gt_read_off(
+    text: &[u8],
+    valences: &mut [u16],
+    rings: &mut [u16],
+    positions: &mut [i32],
+) -> ValueAnswer
+    ensures { λ r. ⌜ valuePaper r ≡ paperAmount (readOffAnswer (now (text .entry)) (now (valences .entry)) (now (rings .entry)) (now (positions .entry))) ⌝ }
+    ensures { λ _. ⌜ now (valences .exit) ≡ readOffValences (now (text .entry)) (now (valences .entry)) (now (rings .entry)) (now (positions .entry)) ⌝ }
+    ensures { λ _. ⌜ now (rings .exit) ≡ readOffRings (now (text .entry)) (now (valences .entry)) (now (rings .entry)) (now (positions .entry)) ⌝ }
+    ensures { λ _. ⌜ now (positions .exit) ≡ readOffPositions (now (text .entry)) (now (valences .entry)) (now (rings .entry)) (now (positions .entry)) ⌝ }
+{
+    of_amount(read_off(text, valences, rings, positions))
+}
+
+// Writes the control mesh as a face list.
+#[no_mangle]
+pub extern "C" fn gt_write_off(
+    valences: &[u16],
+    rings: &[u16],
+    positions: &[i32],
+    count: usize,
+    text: &mut [u8],
+) -> ValueAnswer
+    ensures { λ r. ⌜ valuePaper r ≡ paperAmount (writeOffAnswer count (now (valences .entry)) (now (rings .entry)) (now (positions .entry)) (now (text .entry))) ⌝ }
+    ensures { λ _. ⌜ now (text .exit) ≡ writeOffRoom count (now (valences .entry)) (now (rings .entry)) (now (positions .entry)) (now (text .entry)) ⌝ }
+{
+    of_amount(write_off(valences, rings, positions, count, text))
+}

@@ -1,0 +1,2 @@
+-- The blocks in which vertices are gathered.
+pub mod Blocks

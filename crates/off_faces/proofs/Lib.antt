@@ -1,0 +1,3 @@
+-- Laws of the faces written.
+pub mod FacesInOrder
+pub mod FacesWritten

@@ -1,0 +1,2 @@
+-- The faces of a mesh, written vertex by vertex.
+pub mod Facing

@@ -1,0 +1,2 @@
+-- The rings of a text, written block by block.
+pub mod Filling

@@ -1,0 +1,4 @@
+-- Laws of judging the vertices of a text.
+pub mod Stops
+pub mod Faulty
+pub mod Stepping

@@ -1,0 +1,2 @@
+-- The vertices of a text, judged block by block.
+pub mod Judging

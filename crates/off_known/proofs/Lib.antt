@@ -1,0 +1,2 @@
+-- Laws of numbers read again.
+pub mod Knowing

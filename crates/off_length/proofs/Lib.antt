@@ -1,0 +1,3 @@
+-- Laws of the length of a text.
+pub mod Summed
+pub mod TextLength

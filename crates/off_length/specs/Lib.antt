@@ -1,0 +1,2 @@
+-- How long the text of a mesh is.
+pub mod Length

@@ -1,0 +1,2 @@
+-- Lines of a face list, written.
+pub mod Written

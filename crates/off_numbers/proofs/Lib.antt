@@ -1,0 +1,3 @@
+-- Laws on numbers in a text.
+pub mod Scanning
+pub mod Found

@@ -1,0 +1,2 @@
+-- Laws of the points of a text.
+pub mod Pointing

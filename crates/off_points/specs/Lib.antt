@@ -1,0 +1,2 @@
+-- The points of a text.
+pub mod Points

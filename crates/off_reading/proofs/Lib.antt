@@ -1,0 +1,3 @@
+-- Laws of reading a face list.
+pub mod LinesJudged
+pub mod TextRead

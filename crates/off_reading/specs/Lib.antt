@@ -1,0 +1,2 @@
+-- Reading a face list.
+pub mod Reading

@@ -1,0 +1,33 @@
+-- What the part of reading behind 20, 2 and 1 relies on and answers.
+-- Assumes nothing.
+use mathlib.Core.Path.{_≡_}
+use mathlib.Core.List.{List}
+use Prim.Native.Nat.{ℕ, _*_, _≤_}
+use lib.IntN.{ℤ}
+use lib.ListN.{length}
+use Rattle.rings.specs.Verdict.{refuseAt}
+use Rattle.rings.specs.Accepts.{Room}
+use Rattle.rings.specs.declared.Refusal.the-variants.{OpenRing, ImproperRing, TooFar}
+use Rattle.rings.specs.declared.Verdict.{Verdict}
+use Rattle.rings.specs.declared.Verdict.the-variants.{Accepted}
+use Rattle.off_rings.specs.Faces.{twisted, unfitFaces}
+use Rattle.off_text.specs.Layout.{textCount, textFaces, textFace}
+use Rattle.off_text.specs.ReadOff.{textBeyond}
+use Rattle.off_gather.specs.Gathering.{FaceLines}
+use Rattle.off_points.specs.Points.{VertexLines}
+
+-- the lines of a text are as they should be, and the tables have rows for its vertices
+pub record Lines (s : List ℕ) (count faces points corners : ℕ) (vs rs : List ℕ) (ps : List ℤ) : Type 0 where
+  pub count-is : count ≡ textCount s
+  pub vertex-lines : VertexLines s count points
+  pub face-lines : FaceLines s faces corners
+  pub room : Room count vs rs
+  pub points-room : count * 3 ≤ length ps
+
+-- 21, 4, 7
+unfoldable pub facesVerdict : List ℕ → Verdict
+facesVerdict s =
+    refuseAt (twisted (textCount s) (textFaces s) (textFace s)) (textCount s) OpenRing
+    (refuseAt (unfitFaces (textCount s) (textFaces s) (textFace s)) (textCount s) ImproperRing
+    (refuseAt (textBeyond s) (textCount s) TooFar
+    Accepted))

@@ -1,0 +1,145 @@
+-- Reading back what was written (document 02, order 4), in the lent tables: the text that an accepted writing leaves is accepted by
+-- reading into any tables with room for V, which answers V and leaves the same points and the same rings, up to where each begins.
+-- Assumes nothing.
+use mathlib.Core.Path.{_≡_, refl, sym, ap, ap₂, _∙_, subst}
+use mathlib.Core.Bool.{Bool, true, false, cond, not, _||_}
+use mathlib.Core.List.{List, [], _∷_}
+use Prim.Native.Nat.{ℕ, zero, suc, _+_, _*_, _≤_, _<_}
+use native.Mathlib.Omega.{arith}
+use lib.Dec.{ltb}
+use lib.IntN.{ℤ, pos, negsuc, natAbs}
+use lib.ListN.{length, getD}
+use borrow.Author.Tests.{le-ltb}
+use Rattle.mesh.specs.Search.{sum}
+use Rattle.mesh.specs.Ring.{times, _∈_, Distinct, next, SameRound}
+use Rattle.mesh.specs.Mesh.{Mesh, Sound, valences, edges, faces}
+use Rattle.mesh.proofs.Lists.{sum-same, sum-times, sum-bounded}
+use Rattle.mesh.proofs.SameRounds.{round-by-next}
+use Rattle.mesh.proofs.Edges.{handshake}
+use Rattle.mesh.proofs.Faces.{three-faces}
+use Rattle.mesh.proofs.First.{or-both}
+use Rattle.units.specs.Coordinate.{InRange, beyond}
+use Rattle.rings.specs.Table.{ringOf, rows, coordinateAt}
+use Rattle.rings.specs.Verdict.{refuseIf, refuseAt, andThen, withAmount}
+use Rattle.rings.specs.Check.{badCount, shortTables, checkVerdict}
+use Rattle.rings.specs.Accepts.{Accepts}
+use Rattle.rings.specs.declared.Verdict.{Verdict}
+use Rattle.rings.specs.declared.Verdict.the-variants.{Accepted, Refused}
+use Rattle.rings.specs.declared.Amount.the-variants.{Of}
+use Rattle.rings.proofs.Rows.{rows-ring}
+use Rattle.rings.proofs.Verdicts.{then-accepted, if-clear, at-clear}
+use Rattle.rings.proofs.Accepted.{accepted-only}
+use Rattle.off_rings.specs.Faces.{twisted, unfitFaces, faceRing}
+use Rattle.off_rings.proofs.AcceptedFacesAreSound.{Taken}
+use Rattle.off_text.specs.Layout.{textCount, textFaces, textFace, textPoint, textVerdict}
+use Rattle.off_text.specs.ReadOff.{textBeyond, readOffVerdict, readOffAnswer, readOffValences, readOffRings, readOffPositions}
+use Rattle.off_text.specs.WriteOff.{textOf, text, writeOffVerdict}
+use Rattle.off_text.proofs.NumbersRead.{Held}
+use Rattle.off_text.proofs.WrittenTextReadsBack.{Writable, V-back, F-back, points-back, text-accepted, faces-taken, entries-back, rings-back}
+use Rattle.off_text.proofs.ReadingIsChecked.{ring-read, point-read}
+
+then-both : (a b : Verdict) → a ≡ Accepted → b ≡ Accepted → andThen a b ≡ Accepted
+unfolding andThen
+then-both a b p q = rw p q
+
+in-held : (z : ℤ) → InRange z → Held z
+in-held (pos n) h = omega arith
+in-held (negsuc n) h = omega arith
+
+module _ (n : ℕ) (vs rs : List ℕ) (ps : List ℤ) (A : Accepts n vs rs ps) where
+  -- there are few faces and edges
+  pub few : (3 * faces (rows n vs rs) ≤ n * 32) × (2 * edges (rows n vs rs) ≤ n * 32)
+  unfolding rows valences
+  few =
+      let M : Mesh = rows n vs rs in
+      let S = A .sound in
+      let b : sum (λ v. length (M .ring v)) n ≤ n * 32 = sum-bounded (λ v. length (M .ring v)) 32 n (λ v l. S .proper v l .short) in
+      let e = handshake M (S .proper) (S .mutual′) in
+      let f = three-faces M S in
+      (omega (arith, e, f, b), omega (arith, e, f, b))
+
+  writable : Writable (rows n vs rs) (coordinateAt ps)
+  unfolding rows
+  writable = record {
+    sound = A .sound;
+    vertices = omega (arith, A .high);
+    few-faces = omega (arith, A .high, few);
+    few-edges = omega (arith, A .high, few);
+    held = λ v l axis a. in-held (coordinateAt ps axis v) (A .near v l axis a);
+  }
+
+module _ (n : ℕ) (vs rs : List ℕ) (ps : List ℤ) (room : List ℕ) (h : writeOffVerdict n vs rs ps room ≡ Accepted) where
+  checked : checkVerdict n vs rs ps ≡ Accepted
+  unfolding writeOffVerdict
+  checked = then-accepted (checkVerdict n vs rs ps) _ h .0
+
+  W : Writable (rows n vs rs) (coordinateAt ps)
+  W = writable n vs rs ps (accepted-only n vs rs ps checked)
+
+  -- into these tables, which have room for V
+  module _ (vs′ rs′ : List ℕ) (ps′ : List ℤ) (long : shortTables n vs′ rs′ ps′ ≡ false) where
+    count-back : textCount (text n vs rs ps room) ≡ n
+    unfolding rows
+    count-back = V-back (rows n vs rs) (coordinateAt ps) W
+
+    near : (v : ℕ) → v < n → textBeyond (text n vs rs ps room) v ≡ false
+    unfolding textBeyond beyond rows
+    near v l =
+        let A = accepted-only n vs rs ps checked in
+        let b : (axis : ℕ) → axis < 3 → ltb 1048576 (natAbs (textPoint (text n vs rs ps room) axis v)) ≡ false =
+        λ axis a. le-ltb _ _ (subst (λ z. natAbs z ≤ 1048576) (sym (points-back (rows n vs rs) (coordinateAt ps) W v l axis a)) (A .near v l axis a)) in
+        or-both _ _ (b 0 (omega arith)) (or-both _ _ (b 1 (omega arith)) (b 2 (omega arith)))
+
+    pub read-accepted : readOffVerdict (text n vs rs ps room) vs′ rs′ ps′ ≡ Accepted
+    unfolding readOffVerdict badCount
+    read-accepted =
+        let t : List ℕ = text n vs rs ps room in
+        let A = accepted-only n vs rs ps checked in
+        let k = faces-taken (rows n vs rs) (coordinateAt ps) W in
+        then-both _ _ (text-accepted (rows n vs rs) (coordinateAt ps) W)
+        (if-clear _ _ _ (or-both _ _ (le-ltb (textCount t) 4 (omega (arith, count-back, A .low))) (le-ltb 1024 (textCount t) (omega (arith, count-back, A .high))))
+        ∙ if-clear _ _ _ (subst (λ m. shortTables m vs′ rs′ ps′ ≡ false) (sym count-back) long)
+        ∙ at-clear _ (textCount t) _ _ (k .closes)
+        ∙ at-clear _ (textCount t) _ _ (k .fits)
+        ∙ at-clear _ (textCount t) _ _ (λ v l. near v (subst (λ m. v < m) count-back l)))
+
+    pub read-answers-V : readOffAnswer (text n vs rs ps room) vs′ rs′ ps′ ≡ Of n
+    unfolding readOffAnswer withAmount
+    read-answers-V = rw read-accepted (ap Of count-back)
+
+    -- the points
+    pub points-as-written : (v : ℕ) → v < n → (axis : ℕ) → axis < 3 → coordinateAt (readOffPositions (text n vs rs ps room) vs′ rs′ ps′) axis v ≡ coordinateAt ps axis v
+    unfolding rows
+    points-as-written v l axis a =
+        point-read (text n vs rs ps room) vs′ rs′ ps′ read-accepted v (subst (λ m. v < m) (sym count-back) l) axis a ∙ points-back (rows n vs rs) (coordinateAt ps) W v l axis a
+
+    -- the rings
+    abbrev pub ringRead : ℕ → List ℕ
+    ringRead v = ringOf (readOffValences (text n vs rs ps room) vs′ rs′ ps′) (readOffRings (text n vs rs ps room) vs′ rs′ ps′) v
+
+    ring-is-read : (v : ℕ) → v < n → ringRead v ≡ faceRing (textCount (text n vs rs ps room)) (textFaces (text n vs rs ps room)) (textFace (text n vs rs ps room)) v
+    ring-is-read v l = ring-read (text n vs rs ps room) vs′ rs′ ps′ read-accepted v (subst (λ m. v < m) (sym count-back) l)
+
+    pub entries-as-written : (v : ℕ) → v < n → (x : ℕ) → times x (ringRead v) ≡ times x (ringOf vs rs v)
+    unfolding rows
+    entries-as-written v l x =
+        ap (times x) (ring-is-read v l) ∙ entries-back (rows n vs rs) (coordinateAt ps) W v l x ∙ ap (times x) (rows-ring n vs rs v l)
+
+    pub next-as-written : (v : ℕ) → v < n → (x : ℕ) → x ∈ ringOf vs rs v → next (ringRead v) x ≡ next (ringOf vs rs v) x
+    unfolding rows
+    next-as-written v l x k =
+        ap (λ r. next r x) (ring-is-read v l)
+        ∙ rings-back (rows n vs rs) (coordinateAt ps) W v l x (subst (λ r. x ∈ r) (sym (rows-ring n vs rs v l)) k)
+        ∙ ap (λ r. next r x) (rows-ring n vs rs v l)
+
+    -- the same ring, up to where it begins
+    pub rings-as-written : (v : ℕ) → v < n → SameRound (ringOf vs rs v) (ringRead v)
+    unfolding rows
+    rings-as-written v l =
+        let p = accepted-only n vs rs ps checked .sound .proper v l in
+        let e : rows n vs rs .ring v ≡ ringOf vs rs v = rows-ring n vs rs v l in
+        let t = entries-as-written v l in
+        let known : (x : ℕ) → x ∈ ringOf vs rs v → x < n = λ x m. p .known x (subst (λ r. x ∈ r) (sym e) m) in
+        let long : length (ringRead v) ≡ length (ringOf vs rs v) =
+        sym (sum-times n (ringRead v) (λ x m. known x (omega (arith, t x)))) ∙ sum-same _ _ n (λ x h. t x) ∙ sum-times n (ringOf vs rs v) known in
+        round-by-next (ringOf vs rs v) (subst Distinct e (p .distinct)) (ringRead v) long t (next-as-written v l)

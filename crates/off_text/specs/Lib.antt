@@ -1,0 +1,4 @@
+-- Face lists as text.
+pub mod Layout
+pub mod ReadOff
+pub mod WriteOff

@@ -1,0 +1,2 @@
+-- Laws of units in a text.
+pub mod Passing

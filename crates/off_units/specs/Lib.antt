@@ -1,0 +1,2 @@
+-- Units in a text that is judged.
+pub mod Past

@@ -1,0 +1,2 @@
+-- Laws of writing a face list.
+pub mod TextWritten
