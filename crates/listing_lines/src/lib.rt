@@ -6,15 +6,13 @@ ghost use Rattle.rings.specs.Table.{gather};
 ghost use Rattle.meshfile.specs.Blocks.{Put};
 ghost use Rattle.listing_lines.specs.Lines.{word, countsLine, vertexLine, refusedLine};
 ghost use Rattle.numerals.specs.Wrote.{Wrote};
+use numerals::BLANK;
+use numerals::NEWLINE;
 use numerals::put_coordinate;
 use numerals::put_number;
 use reasons::number;
 use reasons::place;
 use rings::Refusal;
-
-const BLANK: u8 = 32;
-
-const NEWLINE: u8 = 10;
 
 // The level that is printed.
 pub const LEVEL: usize = 1;

@@ -15,6 +15,11 @@ const MOST_DIGITS: usize = 20;
 
 const MINUS: u8 = 45;
 
+// What stands between numbers, and behind a line.
+pub const BLANK: u8 = 32;
+
+pub const NEWLINE: u8 = 10;
+
 // Of the numbers of 32 bits, the lowest that stands for a negative coordinate, and how many there are.
 const LEAST_NEGATIVE: usize = 2147483648;
 

@@ -1,5 +1,5 @@
 // The shape of a block: how many rows it has, and how wide they are in the next one.
-ghost use Prim.Native.Nat.{_≤_, _<_};
+ghost use Prim.Native.Nat.{_<_};
 ghost use Rattle.off_blocks.specs.Blocks.{places, Width, Block};
 
 // The places of each table, and the most rows.

@@ -1,11 +1,10 @@
 // The faces of a mesh, written in ascending order: for each vertex the faces of which it is the smallest corner.
-ghost use mathlib.Core.Path.{_≡_};
 ghost use Prim.Native.Nat.{_+_, _≤_, _<_};
 ghost use lib.ListN.{length};
 ghost use Rattle.mesh.specs.Mesh.{Sound};
-ghost use Rattle.rings.specs.Table.{ringOf, rows};
+ghost use Rattle.rings.specs.Table.{rows};
 ghost use Rattle.rings.specs.Accepts.{Fit};
-ghost use Rattle.off_rings.specs.Listed.{facesFrom, listed};
+ghost use Rattle.off_rings.specs.Listed.{listed};
 ghost use Rattle.off_text.specs.WriteOff.{faceLines};
 ghost use Rattle.off_lines.specs.Written.{Written};
 ghost use Rattle.off_faces.specs.Facing.{facesOf, Ascending};

@@ -1,17 +1,15 @@
 -- One entry more in a row: what the tables then keep; rows without entries; a part of a row. Assumes nothing.
 use mathlib.Core.Path.{_≡_, refl, sym, ap, _∙_, subst}
-use mathlib.Core.Bool.{Bool, true, false, cond}
 use mathlib.Core.List.{List, [], _∷_, _++_}
-use mathlib.Core.Logic.{_⊎_, inl, inr, ⊎-elim, _≢_}
-use Prim.Native.Nat.{ℕ, zero, suc, _+_, _-_, _*_, _≤_, _<_}
+use mathlib.Core.Logic.{⊎-elim, _≢_}
+use Prim.Native.Nat.{ℕ, suc, _+_, _-_, _*_, _≤_, _<_}
 use native.Mathlib.Nat.{suc-mul, mul-le-mul-right, eq-or-lt-of-le}
 use native.Mathlib.Omega.{arith}
-use lib.Dec.{eqb}
 use lib.ListN.{length, getD, set, take, drop, length-set, length-append, length-take, length-drop, List·getD-append}
-use lib.Seq.{getD-set-same, getD-set-other}
+use lib.Seq.{getD-set-same, getD-set-other, getD-append-seam}
 use borrow.Author.Tests.{eq-eqb, ne-eqb}
 use Rattle.mesh.proofs.Lists.{eq-split, lt-split}
-use Rattle.off_fans.specs.Rows.{Kept, Fans, added, Noted, Room, Low, addedAt, NotedIn, Cleared}
+use Rattle.off_fans.specs.Rows.{Kept, Fans, added, Noted, addedAt, NotedIn, Cleared}
 
 -- places of different rows differ
 rows-apart : (width i j a b : ℕ) → a < width → b < width → i ≢ j → i * width + a ≢ j * width + b
@@ -24,27 +22,35 @@ rows-apart width i j a b h g d e =
     below : (i j : ℕ) → i < j → i * width + width ≤ j * width
     below i j l = omega (arith, suc-mul i width, mul-le-mul-right {m = suc i} {n = j} width l)
 
-getD-back : (t : List ℕ) (z : ℕ) → getD (t ++ (z ∷ [])) (length t) 0 ≡ z
-getD-back [] z = refl
-getD-back (a ∷ t) z = getD-back t z
+-- the counts with one more for row j
+abbrev grown : ℕ → List ℕ → List ℕ
+grown j counts = set counts j (getD counts j 0 + 1)
+
+-- the table with x at the next place of row j
+abbrev entered : ℕ → ℕ → ℕ → List ℕ → List ℕ → List ℕ
+entered width j x counts table = set table (j * width + getD counts j 0) x
 
 module _ (width j x : ℕ) (counts table l : List ℕ) (h : j < length counts) (k : Kept width j counts table l) where
-  count-more : getD (set counts j (getD counts j 0 + 1)) j 0 ≡ length (l ++ (x ∷ []))
+  count-more : getD (grown j counts) j 0 ≡ length (l ++ (x ∷ []))
   count-more = getD-set-same counts j _ 0 h ∙ omega (arith, k .count, length-append l (x ∷ []))
 
   -- the row is full: its front stays
-  kept-full : width ≤ getD counts j 0 → Kept width j (set counts j (getD counts j 0 + 1)) table (l ++ (x ∷ []))
+  kept-full : width ≤ getD counts j 0 → Kept width j (grown j counts) table (l ++ (x ∷ []))
   kept-full f = record {
     count = count-more;
     entry = λ i a b. k .entry i (omega (arith, k .count)) b ∙ sym (List·getD-append l (x ∷ []) 0 i (omega (arith, k .count)));
   }
 
-  kept-more : getD counts j 0 < width → j * width + width ≤ length table → Kept width j (set counts j (getD counts j 0 + 1)) (set table (j * width + getD counts j 0) x) (l ++ (x ∷ []))
+  kept-more : getD counts j 0 < width → j * width + width ≤ length table
+      → Kept width j (grown j counts) (entered width j x counts table) (l ++ (x ∷ []))
   kept-more f r = record {
     count = count-more;
     entry = λ i a b.
         ⊎-elim
-        (λ q. getD-set-other table (j * width + getD counts j 0) (j * width + i) x 0 (apart i (omega (arith, k .count, q .1))) ∙ k .entry i (q .1) b ∙ sym (List·getD-append l (x ∷ []) 0 i (q .1)))
+        (λ q.
+        getD-set-other table (j * width + getD counts j 0) (j * width + i) x 0 (apart i (omega (arith, k .count, q .1)))
+        ∙ k .entry i (q .1) b
+        ∙ sym (List·getD-append l (x ∷ []) 0 i (q .1)))
         (λ q. here i (omega (arith, length-append l (x ∷ []), q .1, a)))
         (lt-split i (length l));
   }
@@ -52,11 +58,11 @@ module _ (width j x : ℕ) (counts table l : List ℕ) (h : j < length counts) (
       apart : (i : ℕ) → i < getD counts j 0 → j * width + i ≢ j * width + getD counts j 0
       apart i g e = omega arith
 
-      here : (i : ℕ) → i ≡ length l → getD (set table (j * width + getD counts j 0) x) (j * width + i) 0 ≡ getD (l ++ (x ∷ [])) i 0
+      here : (i : ℕ) → i ≡ length l → getD (entered width j x counts table) (j * width + i) 0 ≡ getD (l ++ (x ∷ [])) i 0
       here i e =
-          ap (λ p. getD (set table (j * width + getD counts j 0) x) (j * width + p) 0) (e ∙ sym (k .count))
+          ap (λ p. getD (entered width j x counts table) (j * width + p) 0) (e ∙ sym (k .count))
           ∙ getD-set-same table (j * width + getD counts j 0) x 0 (omega (arith, f))
-          ∙ sym (ap (λ p. getD (l ++ (x ∷ [])) p 0) e ∙ getD-back l x)
+          ∙ sym (ap (λ p. getD (l ++ (x ∷ [])) p 0) e ∙ getD-append-seam l x [] 0)
 
 -- ---- another row
 
@@ -79,7 +85,7 @@ added-other : (A : ℕ → List ℕ) (j x i : ℕ) → i ≢ j → A i ≡ added
 added-other A j x i d = rw (ne-eqb i j d)
 
 module _ (width j x w : ℕ) (counts froms tos : List ℕ) (h : j < length counts) where
-  pub note-full : width ≤ getD counts j 0 → Noted width j x w counts froms tos (set counts j (getD counts j 0 + 1)) froms tos
+  pub note-full : width ≤ getD counts j 0 → Noted width j x w counts froms tos (grown j counts) froms tos
   note-full f = record {
     counts-same = simp length-set;
     froms-same = refl;
@@ -90,15 +96,21 @@ module _ (width j x w : ℕ) (counts froms tos : List ℕ) (h : j < length count
     };
   }
     where
-      row : (table : List ℕ) (A : ℕ → List ℕ) (y i : ℕ) → Kept width i counts table (A i) → Kept width i (set counts j (getD counts j 0 + 1)) table (added A j y i)
+      row : (table : List ℕ) (A : ℕ → List ℕ) (y i : ℕ) → Kept width i counts table (A i) → Kept width i (grown j counts) table (added A j y i)
       row table A y i k =
           ⊎-elim
-          (λ e. subst (Kept width i (set counts j (getD counts j 0 + 1)) table) (added-same A j y i (e .1)) (subst (λ p. Kept width p counts table (A i) → Kept width p (set counts j (getD counts j 0 + 1)) table (A i ++ (y ∷ []))) (sym (e .1)) (λ q. kept-full width j y counts table (A i) h q f) k))
-          (λ e. subst (Kept width i (set counts j (getD counts j 0 + 1)) table) (added-other A j y i (e .1)) (other-full width i j counts table (A i) (getD counts j 0 + 1) (e .1) k))
+          (λ e.
+          subst (Kept width i (grown j counts) table) (added-same A j y i (e .1))
+          (subst (λ p. Kept width p counts table (A i) → Kept width p (grown j counts) table (A i ++ (y ∷ []))) (sym (e .1))
+          (λ q. kept-full width j y counts table (A i) h q f)
+          k))
+          (λ e.
+          subst (Kept width i (grown j counts) table) (added-other A j y i (e .1))
+          (other-full width i j counts table (A i) (getD counts j 0 + 1) (e .1) k))
           (eq-split i j)
 
   pub note-more : getD counts j 0 < width → j * width + width ≤ length froms → j * width + width ≤ length tos
-      → Noted width j x w counts froms tos (set counts j (getD counts j 0 + 1)) (set froms (j * width + getD counts j 0) x) (set tos (j * width + getD counts j 0) w)
+      → Noted width j x w counts froms tos (grown j counts) (entered width j x counts froms) (entered width j w counts tos)
   note-more f a b = record {
     counts-same = simp length-set;
     froms-same = simp length-set;
@@ -110,16 +122,25 @@ module _ (width j x w : ℕ) (counts froms tos : List ℕ) (h : j < length count
   }
     where
       row : (table : List ℕ) (A : ℕ → List ℕ) (y i : ℕ) → j * width + width ≤ length table → Kept width i counts table (A i)
-          → Kept width i (set counts j (getD counts j 0 + 1)) (set table (j * width + getD counts j 0) y) (added A j y i)
+          → Kept width i (grown j counts) (entered width j y counts table) (added A j y i)
       row table A y i r k =
           ⊎-elim
-          (λ e. subst (Kept width i (set counts j (getD counts j 0 + 1)) (set table (j * width + getD counts j 0) y)) (added-same A j y i (e .1)) (subst (λ p. Kept width p counts table (A i) → Kept width p (set counts j (getD counts j 0 + 1)) (set table (j * width + getD counts j 0) y) (A i ++ (y ∷ []))) (sym (e .1)) (λ q. kept-more width j y counts table (A i) h q f r) k))
-          (λ e. subst (Kept width i (set counts j (getD counts j 0 + 1)) (set table (j * width + getD counts j 0) y)) (added-other A j y i (e .1)) (other-more width i j counts table (A i) (getD counts j 0 + 1) (e .1) k (getD counts j 0) y f))
+          (λ e.
+          subst (Kept width i (grown j counts) (entered width j y counts table)) (added-same A j y i (e .1))
+          (subst
+          (λ p. Kept width p counts table (A i) → Kept width p (grown j counts) (entered width j y counts table) (A i ++ (y ∷ [])))
+          (sym (e .1))
+          (λ q. kept-more width j y counts table (A i) h q f r)
+          k))
+          (λ e.
+          subst (Kept width i (grown j counts) (entered width j y counts table)) (added-other A j y i (e .1))
+          (other-more width i j counts table (A i) (getD counts j 0 + 1) (e .1) k (getD counts j 0) y f))
           (eq-split i j)
 
 -- ---- a vertex and its row
 
-pub fans-same : {rows width : ℕ} {counts froms tos : List ℕ} (A B A′ B′ : ℕ → List ℕ) → ((j : ℕ) → j < rows → A j ≡ A′ j) → ((j : ℕ) → j < rows → B j ≡ B′ j)
+pub fans-same : {rows width : ℕ} {counts froms tos : List ℕ} (A B A′ B′ : ℕ → List ℕ) → ((j : ℕ) → j < rows → A j ≡ A′ j)
+    → ((j : ℕ) → j < rows → B j ≡ B′ j)
     → Fans rows width counts froms tos A B → Fans rows width counts froms tos A′ B′
 fans-same {rows} {width} {counts} {froms} {tos} A B A′ B′ a b k = record {
   from = λ j h. subst (Kept width j counts froms) (a j h) (k .from j h);
@@ -132,7 +153,11 @@ module _ (first rows width x v w : ℕ) (counts froms tos : List ℕ) where
     counts-same = refl;
     froms-same = refl;
     tos-same = refl;
-    more = λ A B k. fans-same A B (addedAt first A v x) (addedAt first B v w) (λ j h. rw (ne-eqb (first + j) v (d j h))) (λ j h. rw (ne-eqb (first + j) v (d j h))) k;
+    more = λ A B k.
+        fans-same A B (addedAt first A v x) (addedAt first B v w)
+        (λ j h. rw (ne-eqb (first + j) v (d j h)))
+        (λ j h. rw (ne-eqb (first + j) v (d j h)))
+        k;
   }
 
   pub note-before : v < first → NotedIn first rows width x v w counts froms tos counts froms tos
@@ -141,13 +166,17 @@ module _ (first rows width x v w : ℕ) (counts froms tos : List ℕ) where
   pub note-behind : first ≤ v → rows ≤ v - first → NotedIn first rows width x v w counts froms tos counts froms tos
   note-behind h g = skip (λ j l e. omega arith)
 
-  pub note-row : first ≤ v → v - first < rows → rows ≤ length counts → {c f t : List ℕ} → Noted width (v - first) x w counts froms tos c f t → NotedIn first rows width x v w counts froms tos c f t
+  pub note-row : first ≤ v → v - first < rows → rows ≤ length counts → {c f t : List ℕ} → Noted width (v - first) x w counts froms tos c f t
+      → NotedIn first rows width x v w counts froms tos c f t
   note-row h g r {c} {f} {t} k = record {
     counts-same = k .counts-same;
     froms-same = k .froms-same;
     tos-same = k .tos-same;
     more = λ A B q.
-        fans-same (added A (v - first) x) (added B (v - first) w) (addedAt first A v x) (addedAt first B v w) (λ j l. same A x j) (λ j l. same B w j) (k .more rows A B r g q);
+        fans-same (added A (v - first) x) (added B (v - first) w) (addedAt first A v x) (addedAt first B v w)
+        (λ j l. same A x j)
+        (λ j l. same B w j)
+        (k .more rows A B r g q);
   }
     where
       far : (j : ℕ) → j ≢ v - first → first + j ≢ v

@@ -26,7 +26,8 @@ pub record Noted (width j x w : ℕ) (counts froms tos counts′ froms′ tos′
   pub counts-same : length counts′ ≡ length counts
   pub froms-same : length froms′ ≡ length froms
   pub tos-same : length tos′ ≡ length tos
-  pub more : (rows : ℕ) (A B : ℕ → List ℕ) → rows ≤ length counts → j < rows → Fans rows width counts froms tos A B → Fans rows width counts′ froms′ tos′ (added A j x) (added B j w)
+  pub more : (rows : ℕ) (A B : ℕ → List ℕ) → rows ≤ length counts → j < rows → Fans rows width counts froms tos A B
+      → Fans rows width counts′ froms′ tos′ (added A j x) (added B j w)
 
 -- the tables have the rows
 pub record Room (rows width : ℕ) (counts froms tos : List ℕ) : Type 0 where

@@ -41,7 +41,8 @@ pub fn note(
     requires { ⌜ getD (now counts) j 0 < 18446744073709551615 ⌝ }
     requires { ⌜ j * width + width ≤ length (now froms) ⌝ }
     requires { ⌜ j * width + width ≤ length (now tos) ⌝ }
-    ensures { λ r. ⌜ Noted width j x w (now (counts .entry)) (now (froms .entry)) (now (tos .entry)) (now (counts .exit)) (now (froms .exit)) (now (tos .exit)) ⌝ }
+    ensures { λ r. ⌜ Noted width j x w (now (counts .entry)) (now (froms .entry)) (now (tos .entry))
+        (now (counts .exit)) (now (froms .exit)) (now (tos .exit)) ⌝ }
 {
     let k = counts[j];
     counts[j] = k + 1;
@@ -67,7 +68,8 @@ pub fn note_in(
     requires { ⌜ Low rows (now counts) ⌝ }
     requires { ⌜ x < 65536 ⌝ }
     requires { ⌜ w < 65536 ⌝ }
-    ensures { λ r. ⌜ NotedIn first rows width x v w (now (counts .entry)) (now (froms .entry)) (now (tos .entry)) (now (counts .exit)) (now (froms .exit)) (now (tos .exit)) ⌝ }
+    ensures { λ r. ⌜ NotedIn first rows width x v w (now (counts .entry)) (now (froms .entry)) (now (tos .entry))
+        (now (counts .exit)) (now (froms .exit)) (now (tos .exit)) ⌝ }
 {
     if v < first {
         return;

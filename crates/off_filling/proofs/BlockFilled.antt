@@ -24,8 +24,9 @@ pub record Reached (s : List ℕ) (count at width rows j : ℕ) (counts froms to
   pub gathered : Gathered s at rows width (textFaces s) counts froms tos
   pub over : j ≡ first (overAt width counts) rows
 
-pub reached : {s : List ℕ} {faces from count at width rows j : ℕ} {c f t c′ f′ t′ : List ℕ} → FaceLines s faces from → Tables c f t → Block width (count - at) rows
-    → Gathered s at rows width faces c′ f′ t′ → SameRoom c f t c′ f′ t′ → j ≡ first (overAt width c′) rows → Reached s count at width rows j c′ f′ t′
+pub reached : {s : List ℕ} {faces from count at width rows j : ℕ} {c f t c′ f′ t′ : List ℕ} → FaceLines s faces from → Tables c f t
+    → Block width (count - at) rows → Gathered s at rows width faces c′ f′ t′ → SameRoom c f t c′ f′ t′ → j ≡ first (overAt width c′) rows
+    → Reached s count at width rows j c′ f′ t′
 reached {s} {faces} {from} {count} {at} {width} {rows} {j} {c} {f} {t} {c′} {f′} {t′} l k b g same e = record {
   block = b;
   room = room-same same (tables-room b k);
@@ -65,7 +66,9 @@ module _ {s : List ℕ} {count at width rows j : ℕ} {counts froms tos : List �
       omega (arith, over-here, row-count (r .gathered) l, f .most (at + j) (omega (arith, r .block .within)))
     where
       over-here : width < getD counts j 0
-      over-here = ltb-true width (getD counts j 0) (subst (λ i. overAt width counts i ≡ true) (sym (r .over)) (first-at (overAt width counts) rows (omega (arith, r .over))))
+      over-here =
+          ltb-true width (getD counts j 0)
+          (subst (λ i. overAt width counts i ≡ true) (sym (r .over)) (first-at (overAt width counts) rows (omega (arith, r .over))))
 
   module _ {width′ : ℕ} {vs rs vs′ rs′ : List ℕ} (h : at < count) (w : Width width) (w′ : Width width′) (p : Filled s at j vs rs vs′ rs′) where
     filled-here : Filled s at (at + j - at) vs rs vs′ rs′

@@ -57,8 +57,8 @@ module _ (n : ℕ) (from to : List ℕ) where
       go true = g (place x from)
       go false = omega arith
 
-  pub walked-more : {old new : List ℕ} {at x y k : ℕ} → n ≤ 1024 → ((i : ℕ) → getD to i 0 < 65536) → at + k < length old → Walked old at new x k → y ≡ follower n from to x
-      → Walked old at (set new (at + k) x) y (k + 1)
+  pub walked-more : {old new : List ℕ} {at x y k : ℕ} → n ≤ 1024 → ((i : ℕ) → getD to i 0 < 65536) → at + k < length old
+      → Walked old at new x k → y ≡ follower n from to x → Walked old at (set new (at + k) x) y (k + 1)
   walked-more {old} {new} {at} {x} {y} {k} h g l w e =
       let f : ℕ → ℕ = follower n from to in
       let start : ℕ = smallest n from to in

@@ -1,7 +1,7 @@
 -- Valences and rows of a text's vertices, written one after the other. Assumes nothing.
 use mathlib.Core.Path.{_≡_, refl, sym, ap, subst, _∙_}
 use mathlib.Core.List.{List, [], _∷_}
-use Prim.Native.Nat.{ℕ, _+_, _-_, _*_, _≤_, _<_}
+use Prim.Native.Nat.{ℕ, _+_, _*_, _≤_, _<_}
 use native.Mathlib.Nat.{add-zero, le-antisymm}
 use native.Mathlib.Omega.{arith}
 use lib.ListN.{length, getD, set, take, drop}
@@ -26,7 +26,10 @@ module _ (s : List ℕ) where
   ring-length : (v : ℕ) → length (textRing s v) ≡ facesAt (textCount s) (textFaces s) (textFace s) v
   unfolding textRing faceRing
   ring-length v =
-      trail-length (after (textCount s) (textFaces s) (textFace s) v) (least (textCount s) (textFaces s) (textFace s) v) (facesAt (textCount s) (textFaces s) (textFace s) v)
+      trail-length
+      (after (textCount s) (textFaces s) (textFace s) v)
+      (least (textCount s) (textFaces s) (textFace s) v)
+      (facesAt (textCount s) (textFaces s) (textFace s) v)
 
   -- the ring from the two lists of its vertex
   ring-is : (v count : ℕ) (from to : List ℕ) → count ≡ textCount s → from ≡ befores (textFace s) v (textFaces s) → to ≡ behinds (textFace s) v (textFaces s)
@@ -35,9 +38,12 @@ module _ (s : List ℕ) where
   ring-is v count from to c f t = rw (c, f, t) (sym (ring-fan (textCount s) (textFaces s) (textFace s) v))
 
   -- the rows of some vertices that have at most 32 faces each
-  rows-length : (v many : ℕ) → ((j : ℕ) → j < many → facesAt (textCount s) (textFaces s) (textFace s) (v + j) ≤ 32) → length (gatherFrom (ringRow s) v many) ≡ many * 32
+  rows-length : (v many : ℕ) → ((j : ℕ) → j < many → facesAt (textCount s) (textFaces s) (textFace s) (v + j) ≤ 32)
+      → length (gatherFrom (ringRow s) v many) ≡ many * 32
   unfolding gatherFrom
-  rows-length v many h = length-rows-below (λ j. ringRow s (v + j)) 32 many (λ j l. length-padded (textRing s (v + j)) (omega (arith, ring-length (v + j), h j l)))
+  rows-length v many h =
+      length-rows-below (λ j. ringRow s (v + j)) 32 many
+      (λ j l. length-padded (textRing s (v + j)) (omega (arith, ring-length (v + j), h j l)))
 
   pub filled-none : {v : ℕ} {vs rs : List ℕ} → v ≤ length vs → v * 32 ≤ length rs → Filled s v 0 vs rs vs rs
   filled-none {v} a b = record { valences = from-none (valenceRow s) v a; rings = from-none (ringRow s) v b }
@@ -57,8 +63,9 @@ module _ (s : List ℕ) where
     rings = from-next (ringRow s) v a b (p .rings) (q .rings) (omega (arith, rows-length v a (λ j l. f .most (v + j) (omega arith))));
   }
 
-  module _ {count first rows width j : ℕ} {counts froms tos vs₀ rs₀ vs rs : List ℕ} (f : Fillable s count vs₀ rs₀) (h : first + rows ≤ count) (r : Room rows width counts froms tos)
-      (g : Gathered s first rows width (textFaces s) counts froms tos) (w : Narrow width rows counts) (l : j < rows) (p : Filled s first j vs₀ rs₀ vs rs) where
+  module _ {count first rows width j : ℕ} {counts froms tos vs₀ rs₀ vs rs : List ℕ} (f : Fillable s count vs₀ rs₀) (h : first + rows ≤ count)
+      (r : Room rows width counts froms tos) (g : Gathered s first rows width (textFaces s) counts froms tos) (w : Narrow width rows counts)
+      (l : j < rows) (p : Filled s first j vs₀ rs₀ vs rs) where
     pub valence-small : getD counts j 0 ≤ 32
     valence-small = omega (arith, row-count g l, f .most (first + j) (omega arith), f .count-is)
 

@@ -118,7 +118,8 @@ fn fill_block(
     requires { ⌜ Fillable (now text) count (now valences) (now rings) ⌝ }
     requires { ⌜ Width width ⌝ }
     requires { ⌜ at < count ⌝ }
-    ensures { λ r. ⌜ Stepped (now (text .entry)) count at width (r .at) (r .width) (now (valences .entry)) (now (rings .entry)) (now (valences .exit)) (now (rings .exit)) ⌝ }
+    ensures { λ r. ⌜ Stepped (now (text .entry)) count at width (r .at) (r .width)
+        (now (valences .entry)) (now (rings .entry)) (now (valences .exit)) (now (rings .exit)) ⌝ }
     ensures { λ r. ⌜ SameRoom (now (counts .entry)) (now (froms .entry)) (now (tos .entry)) (now (counts .exit)) (now (froms .exit)) (now (tos .exit)) ⌝ }
 {
     let rows = rows_of(width, count - at);

@@ -1,27 +1,24 @@
--- One face of a text: where its numbers stand. Assumes nothing.
+-- One face of a text: where its numbers stand, and what the rows keep once it is noted. Assumes nothing.
 use mathlib.Core.Path.{_≡_, refl, sym, ap, _∙_, subst}
 use mathlib.Core.Bool.{Bool, true, false, cond, _&&_}
 use mathlib.Core.List.{List, [], _∷_, _++_, append-nil}
 use mathlib.Core.Logic.{_⊎_, inl, inr, ⊎-elim, _≢_}
 use Prim.Native.Nat.{ℕ, zero, suc, _+_, _≤_, _<_}
 use native.Mathlib.Nat.{le-antisymm}
+use native.Mathlib.Numerals.{add-one}
 use native.Mathlib.Omega.{arith}
 use lib.Dec.{eqb}
-use native.Mathlib.Numerals.{add-one}
 use lib.ListN.{length, length-append}
 use borrow.Author.Tests.{eqb-true, not-true, eq-eqb, ne-eqb}
 use Rattle.mesh.proofs.Lists.{eq-split}
 use Rattle.off_numbers.specs.Text.{byteAt, valueAt, afterAt, isNumber}
 use Rattle.off_numbers.specs.Scanned.{NumberThere}
 use Rattle.off_numbers.proofs.Scanning.{number-within, byte-within, and-true}
-use Rattle.off_rings.specs.Faces.{Face}
-use Rattle.off_rings.proofs.Pairs.{Fine, fine-of}
-use Rattle.off_text.specs.Layout.{textCount, isCorners, isFace, cornersAt, afterFace}
-use Rattle.off_rings.specs.Faces.{corner, before, behind}
+use Rattle.off_rings.specs.Faces.{Face, corner, before, behind}
 use Rattle.off_rings.specs.Fans.{befores, behinds}
-use Rattle.off_rings.proofs.Pairs.{which, at-a, at-b, at-c, Corner}
-use Rattle.off_text.specs.Layout.{faceLineAt, textFace}
-use Rattle.off_fans.specs.Rows.{Kept, Fans, Room, Low, addedAt, NotedIn}
+use Rattle.off_rings.proofs.Pairs.{Fine, fine-of, at-a, at-b, at-c}
+use Rattle.off_text.specs.Layout.{textCount, isCorners, isFace, cornersAt, afterFace, faceLineAt, textFace}
+use Rattle.off_fans.specs.Rows.{Fans, Room, Low, addedAt, NotedIn}
 use Rattle.off_fans.proofs.Noting.{fans-same}
 use Rattle.off_gather.specs.Gathering.{FaceLines, FaceLine, SameRoom, Cornered, Gathered}
 
@@ -50,7 +47,8 @@ standing s at e =
     }
 
 -- from three numbers read one after the other to the face
-pub cornered : (s : List ℕ) (at a p b q c r : ℕ) → isFace s at ≡ true → a ≡ valueAt s (at + 2) → p ≡ afterAt s (at + 2) → b ≡ valueAt s p → q ≡ afterAt s p → c ≡ valueAt s q → r ≡ afterAt s q → Cornered s at a b c r
+pub cornered : (s : List ℕ) (at a p b q c r : ℕ) → isFace s at ≡ true → a ≡ valueAt s (at + 2) → p ≡ afterAt s (at + 2)
+    → b ≡ valueAt s p → q ≡ afterAt s p → c ≡ valueAt s q → r ≡ afterAt s q → Cornered s at a b c r
 unfolding cornersAt afterFace
 cornered s at a p b q c r e a-is p-is b-is q-is c-is r-is =
     let k = standing s at e in
@@ -105,14 +103,14 @@ module _ (first : ℕ) (f : Face) (ab : f .a ≢ f .b) (bc : f .b ≢ f .c) (ca 
       dec : (a b : ℕ) → (a ≡ b) ⊎ (a ≢ b)
       dec a b = ⊎-elim (λ p. inl (p .1)) (λ p. inr (p .1)) (eq-split a b)
 
-  pub three-before : (A : ℕ → List ℕ) (j : ℕ) → three A (f .a) (f .b) (f .c) j ≡ A j ++ cond (corner (first + j) f) (before (first + j) f ∷ []) []
+  three-before : (A : ℕ → List ℕ) (j : ℕ) → three A (f .a) (f .b) (f .c) j ≡ A j ++ cond (corner (first + j) f) (before (first + j) f ∷ []) []
   three-before A j =
       three-is A (f .a) (f .b) (f .c) j (before (first + j) f)
       (λ e. at-a f ab bc ca (first + j) e .from)
       (λ e. at-b f ab bc ca (first + j) e .from)
       (λ e. at-c f ab bc ca (first + j) e .from)
 
-  pub three-behind : (A : ℕ → List ℕ) (j : ℕ) → three A (f .c) (f .a) (f .b) j ≡ A j ++ cond (corner (first + j) f) (behind (first + j) f ∷ []) []
+  three-behind : (A : ℕ → List ℕ) (j : ℕ) → three A (f .c) (f .a) (f .b) j ≡ A j ++ cond (corner (first + j) f) (behind (first + j) f ∷ []) []
   three-behind A j =
       three-is A (f .c) (f .a) (f .b) j (behind (first + j) f)
       (λ e. at-a f ab bc ca (first + j) e .to)
@@ -138,7 +136,8 @@ befores-short : (face : ℕ → Face) (v k : ℕ) → length (befores face v k) 
 unfolding befores
 befores-short face v zero = omega arith
 befores-short face v (suc k) =
-    omega (arith, befores-short face v k, length-append (befores face v k) (cond (corner v (face k)) (before v (face k) ∷ []) []), one (corner v (face k)) (before v (face k)))
+    let last : List ℕ = cond (corner v (face k)) (before v (face k) ∷ []) [] in
+    omega (arith, befores-short face v k, length-append (befores face v k) last, one (corner v (face k)) (before v (face k)))
   where
     one : (t : Bool) (a : ℕ) → length (cond t (a ∷ []) []) ≤ 1
     one true a = omega arith
@@ -151,41 +150,55 @@ added-short first A v x j = go (eqb (first + j) v)
     go true = omega (arith, length-append (A j) (x ∷ []))
     go false = omega arith
 
-low-of : {rows width : ℕ} {c f t : List ℕ} (A B : ℕ → List ℕ) (most : ℕ) → Fans rows width c f t A B → ((j : ℕ) → length (A j) ≤ most) → most < 18446744073709551615 → Low rows c
+low-of : {rows width : ℕ} {c f t : List ℕ} (A B : ℕ → List ℕ) (most : ℕ) → Fans rows width c f t A B
+    → ((j : ℕ) → length (A j) ≤ most) → most < 18446744073709551615 → Low rows c
 low-of A B most k h g = record { low = λ j l. omega (arith, k .from j l .count, h j) }
+
+-- what comes before vertex first + j in the first i faces, and what comes behind it
+module _ (s : List ℕ) (first i : ℕ) where
+  abbrev earlier : ℕ → List ℕ
+  earlier j = befores (textFace s) (first + j) i
+
+  abbrev later : ℕ → List ℕ
+  later j = behinds (textFace s) (first + j) i
 
 -- the counts stay low while a face is noted
 module _ (s : List ℕ) (first rows width i : ℕ) (i< : i < 4294967296) where
-  A : ℕ → List ℕ
-  A j = befores (textFace s) (first + j) i
-
-  B : ℕ → List ℕ
-  B j = behinds (textFace s) (first + j) i
+  short : (j : ℕ) → length (earlier s first i j) ≤ i
+  short j = befores-short (textFace s) (first + j) i
 
   module _ {c f t : List ℕ} (g : Gathered s first rows width i c f t) where
     pub low-none : Low rows c
-    low-none = low-of (λ j. befores (textFace s) (first + j) i) (λ j. behinds (textFace s) (first + j) i) i (g .fans) (λ j. befores-short (textFace s) (first + j) i) (omega arith)
+    low-none = low-of (earlier s first i) (later s first i) i (g .fans) short (omega arith)
 
     module _ {x v w : ℕ} {c₁ f₁ t₁ : List ℕ} (n₁ : NotedIn first rows width x v w c f t c₁ f₁ t₁) where
-      fans-one : Fans rows width c₁ f₁ t₁ (addedAt first A v x) (addedAt first B v w)
-      unfolding A B
-      fans-one = n₁ .more A B (g .fans)
+      abbrev earlier₁ : ℕ → List ℕ
+      earlier₁ = addedAt first (earlier s first i) v x
+
+      abbrev later₁ : ℕ → List ℕ
+      later₁ = addedAt first (later s first i) v w
+
+      short₁ : (j : ℕ) → length (earlier₁ j) ≤ i + 1
+      short₁ j = omega (arith, added-short first (earlier s first i) v x j, short j)
+
+      fans₁ : Fans rows width c₁ f₁ t₁ earlier₁ later₁
+      fans₁ = n₁ .more (earlier s first i) (later s first i) (g .fans)
 
       pub low-one : Low rows c₁
-      unfolding A
-      low-one = low-of (addedAt first A v x) (addedAt first B v w) (i + 1) fans-one (λ j. omega (arith, added-short first A v x j, befores-short (textFace s) (first + j) i)) (omega arith)
+      low-one = low-of earlier₁ later₁ (i + 1) fans₁ short₁ (omega arith)
 
       module _ {x′ v′ w′ : ℕ} {c₂ f₂ t₂ : List ℕ} (n₂ : NotedIn first rows width x′ v′ w′ c₁ f₁ t₁ c₂ f₂ t₂) where
         pub low-two : Low rows c₂
-        unfolding A
         low-two =
-            low-of (addedAt first (addedAt first A v x) v′ x′) (addedAt first (addedAt first B v w) v′ w′) (i + 2) (n₂ .more (addedAt first A v x) (addedAt first B v w) fans-one)
-            (λ j. omega (arith, added-short first (addedAt first A v x) v′ x′ j, added-short first A v x j, befores-short (textFace s) (first + j) i))
+            low-of (addedAt first earlier₁ v′ x′) (addedAt first later₁ v′ w′) (i + 2) (n₂ .more earlier₁ later₁ fans₁)
+            (λ j. omega (arith, added-short first earlier₁ v′ x′ j, short₁ j))
             (omega arith)
 
 -- a face more is gathered
-pub gathered-more : (s : List ℕ) (first rows width i at a b c next : ℕ) {c₀ f₀ t₀ c₁ f₁ t₁ c₂ f₂ t₂ c₃ f₃ t₃ : List ℕ} → at ≡ faceLineAt s i → isFace s at ≡ true → Cornered s at a b c next
-    → Gathered s first rows width i c₀ f₀ t₀ → NotedIn first rows width a b c c₀ f₀ t₀ c₁ f₁ t₁ → NotedIn first rows width b c a c₁ f₁ t₁ c₂ f₂ t₂ → NotedIn first rows width c a b c₂ f₂ t₂ c₃ f₃ t₃
+pub gathered-more : (s : List ℕ) (first rows width i at a b c next : ℕ) {c₀ f₀ t₀ c₁ f₁ t₁ c₂ f₂ t₂ c₃ f₃ t₃ : List ℕ}
+    → at ≡ faceLineAt s i → isFace s at ≡ true → Cornered s at a b c next
+    → Gathered s first rows width i c₀ f₀ t₀ → NotedIn first rows width a b c c₀ f₀ t₀ c₁ f₁ t₁
+    → NotedIn first rows width b c a c₁ f₁ t₁ c₂ f₂ t₂ → NotedIn first rows width c a b c₂ f₂ t₂ c₃ f₃ t₃
     → (next ≡ faceLineAt s (i + 1)) × Gathered s first rows width (i + 1) c₃ f₃ t₃
 unfolding faceLineAt befores behinds textFace
 gathered-more s first rows width i at a b c next e good k g n₁ n₂ n₃ =
@@ -194,14 +207,17 @@ gathered-more s first rows width i at a b c next e good k g n₁ n₂ n₃ =
     let a′ : a ≡ f .a = k .a-is ∙ ap (λ p. cornersAt s p .a) e in
     let b′ : b ≡ f .b = k .b-is ∙ ap (λ p. cornersAt s p .b) e in
     let c′ : c ≡ f .c = k .c-is ∙ ap (λ p. cornersAt s p .c) e in
-    let A′ : ℕ → List ℕ = λ j. befores (textFace s) (first + j) i in
-    let B′ : ℕ → List ℕ = λ j. behinds (textFace s) (first + j) i in
-    let m₁ = noted-is n₁ (f .a) (f .b) (f .c) a′ b′ c′ .more A′ B′ (g .fans) in
+    let m₁ = noted-is n₁ (f .a) (f .b) (f .c) a′ b′ c′ .more (earlier s first i) (later s first i) (g .fans) in
     let m₂ = noted-is n₂ (f .b) (f .c) (f .a) b′ c′ a′ .more _ _ m₁ in
     let m₃ = noted-is n₃ (f .c) (f .a) (f .b) c′ a′ b′ .more _ _ m₂ in
     rw (add-one i) (
       k .next-is ∙ ap (afterFace s) e,
-      record { fans = fans-same _ _ (λ j. befores (textFace s) (first + j) (suc i)) (λ j. behinds (textFace s) (first + j) (suc i)) (λ j h. three-before first f (fine .ab) (fine .bc) (fine .ca) A′ j) (λ j h. three-behind first f (fine .ab) (fine .bc) (fine .ca) B′ j) m₃ },
+      record {
+        fans = fans-same _ _ (earlier s first (suc i)) (later s first (suc i))
+            (λ j h. three-before first f (fine .ab) (fine .bc) (fine .ca) (earlier s first i) j)
+            (λ j h. three-behind first f (fine .ab) (fine .bc) (fine .ca) (later s first i) j)
+            m₃;
+      },
     )
 
 -- ---- what the functions know
@@ -218,7 +234,8 @@ face-line {s} {m} {from} {i} {at} k h e = record {
 }
 
 pub same-three : {first rows width a b c a₁ b₁ c₁ a₂ b₂ c₂ : ℕ} {c₀ f₀ t₀ d₁ f₁ t₁ d₂ f₂ t₂ d₃ f₃ t₃ : List ℕ}
-    → NotedIn first rows width a b c c₀ f₀ t₀ d₁ f₁ t₁ → NotedIn first rows width a₁ b₁ c₁ d₁ f₁ t₁ d₂ f₂ t₂ → NotedIn first rows width a₂ b₂ c₂ d₂ f₂ t₂ d₃ f₃ t₃ → SameRoom c₀ f₀ t₀ d₃ f₃ t₃
+    → NotedIn first rows width a b c c₀ f₀ t₀ d₁ f₁ t₁ → NotedIn first rows width a₁ b₁ c₁ d₁ f₁ t₁ d₂ f₂ t₂
+    → NotedIn first rows width a₂ b₂ c₂ d₂ f₂ t₂ d₃ f₃ t₃ → SameRoom c₀ f₀ t₀ d₃ f₃ t₃
 same-three n₁ n₂ n₃ = record {
   counts-same = n₃ .counts-same ∙ n₂ .counts-same ∙ n₁ .counts-same;
   froms-same = n₃ .froms-same ∙ n₂ .froms-same ∙ n₁ .froms-same;
@@ -238,5 +255,6 @@ same-none = record { counts-same = refl; froms-same = refl; tos-same = refl }
 pub same-more : {c f t c′ f′ t′ c″ f″ t″ : List ℕ} → SameRoom c f t c′ f′ t′ → SameRoom c′ f′ t′ c″ f″ t″ → SameRoom c f t c″ f″ t″
 same-more a b = record { counts-same = b .counts-same ∙ a .counts-same; froms-same = b .froms-same ∙ a .froms-same; tos-same = b .tos-same ∙ a .tos-same }
 
-pub gathered-end : {s : List ℕ} {first rows width i m : ℕ} {c f t : List ℕ} → i ≤ m → m ≤ i → Gathered s first rows width i c f t → Gathered s first rows width m c f t
+pub gathered-end : {s : List ℕ} {first rows width i m : ℕ} {c f t : List ℕ} → i ≤ m → m ≤ i → Gathered s first rows width i c f t
+    → Gathered s first rows width m c f t
 gathered-end {s} {first} {rows} {width} {i} {m} {c} {f} {t} a b g = subst (λ k. Gathered s first rows width k c f t) (le-antisymm a b) g

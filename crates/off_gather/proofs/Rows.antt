@@ -1,8 +1,7 @@
 -- From the rows that were gathered to the faces of a vertex, whatever the rows' width. Assumes nothing.
 use mathlib.Core.Path.{_≡_, refl, _∙_, subst}
-use mathlib.Core.List.{List, [], _∷_}
-use Prim.Native.Nat.{ℕ, suc, _+_, _*_, _≤_, _<_}
-use native.Mathlib.Nat.{suc-mul, mul-le-mul-right}
+use mathlib.Core.List.{List}
+use Prim.Native.Nat.{ℕ, _+_, _*_, _≤_, _<_}
 use native.Mathlib.Omega.{arith}
 use lib.ListN.{length, getD, take, drop, length-take, length-drop}
 use lib.Seq.{ext-getD, getD-take, getD-drop}
@@ -11,13 +10,15 @@ use Rattle.off_rings.specs.Fans.{befores, behinds}
 use Rattle.off_rings.proofs.FansOfFaces.{faces-length}
 use Rattle.off_rings.proofs.Pairs.{Fine}
 use Rattle.off_text.specs.Layout.{textCount, textFaces, faceLineAt, textFace}
-use Rattle.off_fans.specs.Rows.{Kept, Fans, Room, Cleared}
+use Rattle.off_fans.specs.Rows.{Kept, Room, Cleared}
+use Rattle.off_fans.proofs.Noting.{row-room}
 use Rattle.off_blocks.specs.Blocks.{Block, Tables}
 use Rattle.off_gather.specs.Gathering.{FaceLines, Gathered, SameRoom}
 use Rattle.off_gather.proofs.Gathering.{standing}
 
 -- rows without entries have gathered no face
-pub gathered-none : {s : List ℕ} {first rows width : ℕ} {counts counts′ froms tos : List ℕ} → Cleared rows counts counts′ → Gathered s first rows width 0 counts′ froms tos
+pub gathered-none : {s : List ℕ} {first rows width : ℕ} {counts counts′ froms tos : List ℕ} → Cleared rows counts counts′
+    → Gathered s first rows width 0 counts′ froms tos
 unfolding befores behinds
 gathered-none k = record {
   fans = record {
@@ -29,19 +30,16 @@ gathered-none k = record {
 pub same-cleared : {rows : ℕ} {counts counts′ froms tos : List ℕ} → Cleared rows counts counts′ → SameRoom counts froms tos counts′ froms tos
 same-cleared k = record { counts-same = k .same; froms-same = refl; tos-same = refl }
 
--- a row's places are within a table that has all rows
-row-within : (rows width j long : ℕ) → rows * width ≤ long → j < rows → j * width + width ≤ long
-row-within rows width j long r l = omega (arith, suc-mul j width, mul-le-mul-right {m = suc j} {n = rows} width l)
-
+-- a row's places are within the tables
 module _ {rows width j : ℕ} {counts froms tos : List ℕ} (r : Room rows width counts froms tos) (l : j < rows) where
   pub row-counts : j < length counts
   row-counts = omega (arith, r .counts-long)
 
   pub row-froms : j * width + width ≤ length froms
-  row-froms = row-within rows width j (length froms) (r .froms-long) l
+  row-froms = row-room rows width j (length froms) l (r .froms-long)
 
   pub row-tos : j * width + width ≤ length tos
-  row-tos = row-within rows width j (length tos) (r .tos-long) l
+  row-tos = row-room rows width j (length tos) l (r .tos-long)
 
 -- a row that is not too long for its width is its list
 row-list : (width j n : ℕ) (counts table l : List ℕ) → Kept width j counts table l → n ≡ length l → n ≤ width → j * width + width ≤ length table

@@ -2,12 +2,11 @@
 -- Assumes nothing.
 use mathlib.Core.Path.{_≡_}
 use mathlib.Core.Bool.{true}
-use mathlib.Core.List.{List, []}
+use mathlib.Core.List.{List}
 use Prim.Native.Nat.{ℕ, _+_, _≤_, _<_}
 use lib.ListN.{length}
 use Rattle.mesh.specs.Limits.{mostCount}
 use Rattle.off_numbers.specs.Text.{numbers32}
-use Rattle.off_rings.specs.Faces.{Face}
 use Rattle.off_rings.specs.Fans.{befores, behinds}
 use Rattle.off_text.specs.Layout.{textCount, textFaces, isFace, faceLineAt, textFace, cornersAt, afterFace}
 use Rattle.off_fans.specs.Rows.{Fans}

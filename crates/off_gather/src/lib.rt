@@ -1,9 +1,8 @@
 // The faces of a text, gathered for some vertices at a time: for each, what comes before it and behind it in its faces, in their order.
 ghost use mathlib.Core.Path.{_≡_};
 ghost use mathlib.Core.Bool.{true};
-ghost use Prim.Native.Nat.{_+_, _≤_, _<_};
-ghost use lib.ListN.{length};
-ghost use Rattle.off_text.specs.Layout.{textCount, isFace, faceLineAt};
+ghost use Prim.Native.Nat.{_+_};
+ghost use Rattle.off_text.specs.Layout.{isFace, faceLineAt};
 ghost use Rattle.off_fans.specs.Rows.{Room};
 ghost use Rattle.off_gather.specs.Gathering.{FaceLines, FaceLine, SameRoom, Cornered, Gathered};
 use off_fans::clear;

@@ -1,5 +1,5 @@
-// Reasons 21 and 4: the vertices of a text judged in blocks, each by one pass over the faces. Where a vertex has more faces than its row is wide, the next block
-// begins with it, in wider rows.
+// Reasons 21 and 4: the vertices of a text judged in blocks, each by one pass over the faces. Where a vertex has more faces than its row is wide,
+// the next block begins with it, in wider rows.
 ghost use mathlib.Core.Path.{_≡_};
 ghost use Prim.Native.Nat.{_+_, _≤_, _<_};
 ghost use lib.ListN.{length};

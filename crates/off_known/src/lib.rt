@@ -3,13 +3,9 @@ ghost use mathlib.Core.Path.{_≡_};
 ghost use Rattle.off_numbers.specs.Text.{valueAt, afterAt, unitAt, afterUnit};
 ghost use Rattle.off_numbers.specs.Scanned.{NumberThere, UnitThere};
 use meshfile::bytes::coordinate_of;
-
-const ZERO: usize = 48;
-
-const MINUS: usize = 45;
-
-// How many numbers 32 bits hold.
-const WHOLE: usize = 4294967296;
+use off_numbers::MINUS;
+use off_numbers::WHOLE;
+use off_numbers::ZERO;
 
 // A number and the place behind the byte that follows it.
 pub struct Read {

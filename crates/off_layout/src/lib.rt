@@ -6,6 +6,7 @@ ghost use Rattle.off_rings.specs.Faces.{badFace};
 ghost use Rattle.off_text.specs.Layout.{isWord, textCount, vertexAt, faceLineAt};
 ghost use Rattle.off_layout.specs.Judging.{headOf, pastVertex, pastFace, isThree, badVertex, badLine, PastLines, judgedText};
 use off_numbers::Number;
+use off_numbers::WHOLE;
 use off_numbers::number_at;
 use off_units::Past;
 use off_units::past_unit;
@@ -14,9 +15,6 @@ use rings::Refusal;
 const BLANK: usize = 32;
 
 const NEWLINE: usize = 10;
-
-// How many numbers 32 bits hold.
-const WHOLE: usize = 4294967296;
 
 // Where the second line begins.
 const COUNTS: usize = 4;

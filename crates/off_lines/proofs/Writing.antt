@@ -32,7 +32,7 @@ pub written-is : {l m : List ℕ} {i k : ℕ} {a b : List ℕ} → a ≡ b → W
 written-is {l} {m} {i} {k} e w = subst (λ (x : List ℕ). Written l i x m k) e w
 
 -- without its most bytes
-pub written : {l m : List ℕ} {i k most : ℕ} {a : List ℕ} → Wrote l i a m k most → Written l i a m k
+written : {l m : List ℕ} {i k most : ℕ} {a : List ℕ} → Wrote l i a m k most → Written l i a m k
 written w = record { put = w .put; ends = w .ends }
 
 -- ---- lines

@@ -1,18 +1,14 @@
 // The lines of a face list: each function answers the place behind what it wrote.
-ghost use mathlib.Core.Path.{_≡_};
 ghost use Prim.Native.Nat.{_+_, _*_, _≤_};
 ghost use lib.ListN.{length};
 ghost use Rattle.rings.specs.Table.{gather};
 ghost use Rattle.meshfile.specs.Blocks.{Put};
-ghost use Rattle.off_rings.specs.Faces.{Face};
 ghost use Rattle.off_text.specs.WriteOff.{word, countsLine, faceLine};
 ghost use Rattle.off_lines.specs.Written.{Written, lineOf};
+use numerals::BLANK;
+use numerals::NEWLINE;
 use numerals::put_coordinate;
 use numerals::put_number;
-
-const BLANK: u8 = 32;
-
-const NEWLINE: u8 = 10;
 
 // The word OFF, and a newline.
 pub fn put_word(text: &mut [u8])

@@ -50,7 +50,7 @@ unfoldable pub nines : ℕ → ℕ
 nines zero = 0
 nines (suc k) = nines k * 10 + 9
 
-pub nines-most : (k : ℕ) → k ≤ 11 → nines k ≤ 99999999999
+nines-most : (k : ℕ) → k ≤ 11 → nines k ≤ 99999999999
 unfolding nines
 nines-most k h = climbs nines (λ i. omega arith) k 11 h
 
@@ -73,12 +73,9 @@ module _ (s : List ℕ) (at count value byte : ℕ) (r : Bool) (is : byte ≡ by
   digit-of = subst (λ b. r ≡ (leb 48 b && leb b 57)) is test
 
   pub digit-range : r ≡ true → (48 ≤ byte) × (byte ≤ 57)
-  digit-range e = go (leb 48 byte) refl (leb byte 57) refl (sym test ∙ e)
-    where
-      go : (p : Bool) → leb 48 byte ≡ p → (q : Bool) → leb byte 57 ≡ q → (leb 48 byte && leb byte 57) ≡ true → (48 ≤ byte) × (byte ≤ 57)
-      go true a true b f = (leb-true 48 byte a, leb-true byte 57 b)
-      go true a false b f = absurd (true-not-false f (rw (a, b)))
-      go false a q b f = absurd (true-not-false f (rw a))
+  digit-range e =
+      let d = and-true (leb 48 byte) (leb byte 57) (sym test ∙ e) in
+      (leb-true 48 byte (d .0), leb-true byte 57 (d .1))
 
   pub scan-stop : Scan s at count value → count < 11 → not r ≡ true → Digits s at count value
   unfolding runAt valueAt

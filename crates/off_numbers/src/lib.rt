@@ -11,7 +11,12 @@ const MOST_DIGITS: usize = 11;
 
 const NINE: usize = 57;
 
-const ZERO: usize = 48;
+// The digit 0, a minus sign, and how many numbers 32 bits hold.
+pub const ZERO: usize = 48;
+
+pub const MINUS: usize = 45;
+
+pub const WHOLE: usize = 4294967296;
 
 // A number, and the place behind the byte that follows it; or something else.
 pub enum Number {

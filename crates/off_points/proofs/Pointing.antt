@@ -25,9 +25,9 @@ use Rattle.off_points.specs.Points.{VertexLines, VertexLine, PointRead, 
 
 -- the three coordinates of a vertex stand one behind the other
 record Standing (s : List ℕ) (at : ℕ) : Type 0 where
-  pub first : UnitThere s at
-  pub second : UnitThere s (afterUnit s at)
-  pub third : UnitThere s (afterUnit s (afterUnit s at))
+  first : UnitThere s at
+  second : UnitThere s (afterUnit s at)
+  third : UnitThere s (afterUnit s (afterUnit s at))
 
 standing : (s : List ℕ) (at : ℕ) → isVertex s at ≡ true → Standing s at
 unfolding isVertex

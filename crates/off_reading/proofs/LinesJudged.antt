@@ -1,22 +1,19 @@
 -- Reasons 21, 4 and 7 of a text whose lines are as they should be: the verdict by the vertices found, and what an accepted one leaves to write.
 -- Assumes nothing.
-use mathlib.Core.Path.{_≡_, refl, sym, ap, _∙_, subst}
-use mathlib.Core.Bool.{Bool, false, _||_}
+use mathlib.Core.Path.{_≡_, sym, ap, _∙_, subst}
+use mathlib.Core.Bool.{false}
 use mathlib.Core.List.{List}
 use Prim.Native.Nat.{ℕ, _≤_, _<_}
 use native.Mathlib.Nat.{le-antisymm}
 use native.Mathlib.Omega.{arith}
 use lib.Dec.{ltb}
 use lib.IntN.{ℤ}
-use lib.ListN.{length, replicate, length-replicate}
+use lib.ListN.{replicate, length-replicate}
 use borrow.Author.Tests.{ltb-false}
 use Rattle.mesh.specs.Search.{first}
 use Rattle.mesh.proofs.First.{first-same, first-le, first-clear, or-false}
-use Rattle.rings.specs.Verdict.{after}
-use Rattle.rings.specs.Table.{put, gather, valenceRows, ringRows}
-use Rattle.rings.specs.declared.Refusal.{Refusal}
+use Rattle.rings.specs.Table.{put, valenceRows, ringRows}
 use Rattle.rings.specs.declared.Refusal.the-variants.{OpenRing, ImproperRing, TooFar}
-use Rattle.rings.specs.declared.Verdict.{Verdict}
 use Rattle.rings.specs.declared.Verdict.the-variants.{Accepted, Refused}
 use Rattle.rings.proofs.Verdicts.{at-hit, at-pass}
 use Rattle.meshfile.proofs.Gathered.{from-start}

@@ -1,11 +1,10 @@
 -- What the judge of a text hands on, and the call's answer and tables by the verdict. Assumes nothing.
-use mathlib.Core.Path.{_≡_, refl, sym, ap, _∙_, subst}
+use mathlib.Core.Path.{_≡_, refl, sym, ap, _∙_}
 use mathlib.Core.Bool.{Bool, true, false, not}
 use mathlib.Core.List.{List}
-use Prim.Native.Nat.{ℕ, _*_, _≤_, _<_}
+use Prim.Native.Nat.{ℕ, _≤_, _<_}
 use native.Mathlib.Omega.{arith}
 use lib.IntN.{ℤ}
-use lib.ListN.{length}
 use borrow.Author.Tests.{not-false}
 use Rattle.mesh.proofs.First.{Clear}
 use Rattle.rings.specs.Table.{put, valenceRows, ringRows, pointRows}
@@ -19,13 +18,11 @@ use Rattle.rings.specs.declared.Amount.{Amount}
 use Rattle.rings.specs.declared.Amount.the-variants as amount
 use Rattle.rings.proofs.Verdicts.{if-hit, if-pass, if-accepted, at-accepted}
 use Rattle.rings.proofs.Checks.{told-most, long-tables}
-use Rattle.off_text.specs.Layout.{isCounts, isVertex, isFace, textCount, textFaces, vertexAt, faceLineAt, textPoint, textVerdict}
+use Rattle.off_text.specs.Layout.{isCounts, textCount, textFaces, vertexAt, faceLineAt, textPoint, textVerdict}
 use Rattle.off_text.specs.ReadOff.{textRing, readOffVerdict, readOffAnswer, readOffValences, readOffRings, readOffPositions}
 use Rattle.off_layout.specs.Judging.{headOf, badVertex, badLine, withText, judgedText}
 use Rattle.off_layout.specs.declared.Text.the-variants as judged
 use Rattle.off_layout.proofs.Lines.{head-found}
-use Rattle.off_gather.specs.Gathering.{FaceLines}
-use Rattle.off_points.specs.Points.{VertexLines}
 use Rattle.off_reading.specs.Reading.{Lines, facesVerdict}
 
 -- ---- what the judge hands on
@@ -71,7 +68,7 @@ module _ (s : List ℕ) where
     few-faces = head-found s (textCount s) (textFaces s) (vertexAt s 0) (rw (stages .0)) .faces-small
 
 module _ {s : List ℕ} {count faces points corners : ℕ} (T : Whole s count faces points corners) where
-  pub lines-good : {vs rs : List ℕ} {ps : List ℤ} → count ≤ 1024 → shortTables count vs rs ps ≡ false → Lines s count faces points corners vs rs ps
+  lines-good : {vs rs : List ℕ} {ps : List ℤ} → count ≤ 1024 → shortTables count vs rs ps ≡ false → Lines s count faces points corners vs rs ps
   lines-good {vs} {rs} {ps} few long =
       let g = stages s (T .accepted) in
       let r = long-tables count vs rs ps long in

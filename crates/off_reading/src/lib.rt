@@ -2,9 +2,11 @@
 ghost use mathlib.Core.Path.{_≡_};
 ghost use Rattle.rings.specs.Table.{put, valenceRows, ringRows, pointRows};
 ghost use Rattle.rings.specs.Verdict.{after};
-ghost use Rattle.off_text.specs.Layout.{textCount, textPoint};
+ghost use Rattle.off_text.specs.Layout.{textPoint};
 ghost use Rattle.off_text.specs.ReadOff.{textRing, readOffAnswer, readOffValences, readOffRings, readOffPositions};
 ghost use Rattle.off_reading.specs.Reading.{Lines, facesVerdict};
+use off_blocks::PLACES;
+use off_blocks::ROWS;
 use off_filling::fill_rings;
 use off_judge::judge_vertices;
 use off_layout::Text;
@@ -30,13 +32,15 @@ fn read_lines(
 ) -> Verdict
     requires { ⌜ Lines (now text) count faces points corners (now valences) (now rings) (now positions) ⌝ }
     ensures { λ r. ⌜ r ≡ facesVerdict (now (text .entry)) ⌝ }
-    ensures { λ r. ⌜ now (valences .exit) ≡ after r (put (now (valences .entry)) 0 (valenceRows (textRing (now (text .entry))) count)) (now (valences .entry)) ⌝ }
+    ensures { λ r. ⌜ now (valences .exit)
+        ≡ after r (put (now (valences .entry)) 0 (valenceRows (textRing (now (text .entry))) count)) (now (valences .entry)) ⌝ }
     ensures { λ r. ⌜ now (rings .exit) ≡ after r (put (now (rings .entry)) 0 (ringRows (textRing (now (text .entry))) count)) (now (rings .entry)) ⌝ }
-    ensures { λ r. ⌜ now (positions .exit) ≡ after r (put (now (positions .entry)) 0 (pointRows (textPoint (now (text .entry))) count)) (now (positions .entry)) ⌝ }
+    ensures { λ r. ⌜ now (positions .exit)
+        ≡ after r (put (now (positions .entry)) 0 (pointRows (textPoint (now (text .entry))) count)) (now (positions .entry)) ⌝ }
 {
-    let mut counts = [0; 128];
-    let mut froms = [0; 1024];
-    let mut tos = [0; 1024];
+    let mut counts = [0; ROWS];
+    let mut froms = [0; PLACES];
+    let mut tos = [0; PLACES];
     let faults = judge_vertices(
         text,
         corners,

@@ -1,21 +1,21 @@
--- Faces that are accepted (order 4) make a sound mesh: where no face is bad, the faces of each vertex close into one ring and each valence is 3 to 32. Assumes nothing.
-use mathlib.Core.Path.{_≡_, refl, sym, ap, _∙_, subst}
-use mathlib.Core.Bool.{Bool, true, false, not, _||_}
-use mathlib.Core.List.{List, []}
+-- Faces that are accepted (order 4) make a sound mesh: where no face is bad, the faces of each vertex close into one ring and each valence is 3 to 32.
+-- Assumes nothing.
+use mathlib.Core.Path.{_≡_, refl, sym, _∙_, subst}
+use mathlib.Core.Bool.{true, false}
 use mathlib.Core.Logic.{⊎-elim}
 use Prim.Native.Nat.{ℕ, _≤_, _<_}
 use native.Mathlib.Omega.{arith}
 use lib.Dec.{ltb}
-use lib.ListN.{length, getD}
+use lib.ListN.{getD}
 use borrow.Author.Tests.{lt-ltb, ltb-false, not-false}
 use Rattle.mesh.specs.Ring.{_∈_, next, Follows}
-use Rattle.mesh.specs.Mesh.{Mesh, Proper, Sound}
-use Rattle.mesh.specs.Search.{first, some}
+use Rattle.mesh.specs.Mesh.{Proper, Sound}
+use Rattle.mesh.specs.Search.{some}
 use Rattle.mesh.proofs.Lists.{lt-split}
 use Rattle.mesh.proofs.First.{or-false, first-clear, true-not-false}
 use Rattle.mesh.proofs.Rings.{next-in}
-use Rattle.off_rings.specs.Faces.{Face, badFace, corner, before, behind, pairIn, after, least, closed, twisted, unfitFaces, facesAt, faceRing, faceMesh}
-use Rattle.off_rings.proofs.Pairs.{Fine, fine-of, Round, Corner, round-of, behind-lt}
+use Rattle.off_rings.specs.Faces.{Face, badFace, before, behind, pairIn, after, least, closed, twisted, unfitFaces, facesAt, faceRing, faceMesh}
+use Rattle.off_rings.proofs.Pairs.{Fine, fine-of, Corner, round-of, behind-lt}
 use Rattle.off_rings.proofs.Turns.{ring-length, ring-distinct, entry-lt, on-ring, entry-pair, entry-face, twisted-open}
 use Rattle.off_rings.proofs.Trails.{trail-at, steps-none}
 
@@ -33,13 +33,11 @@ module _ (n m : ℕ) (face : ℕ → Face) where
     shut : (v : ℕ) → v < n → closed n m face v ≡ true
     shut v h = not-false _ (sym (twisted-open n m face good v) ∙ k .closes v h)
 
-    pub ring-is : (v : ℕ) → v < n → faceMesh n m face .ring v ≡ faceRing n m face v
-    unfolding faceMesh
-    ring-is v h = rw (lt-ltb v n h)
-
     -- a face at v, seen from its other corners
     round : (v : ℕ) → v < n → (u : ℕ) → u ∈ faceRing n m face v
-        → (next (faceRing n m face v) u < n) × (Follows (faceRing n m face (next (faceRing n m face v) u)) v u × Follows (faceRing n m face u) (next (faceRing n m face v) u) v)
+        → (next (faceRing n m face v) u < n)
+        × (Follows (faceRing n m face (next (faceRing n m face v) u)) v u
+        × Follows (faceRing n m face u) (next (faceRing n m face v) u) v)
     round v h u p =
         let e = entry-face n m face good v (shut v h) u p in
         let i : ℕ = e .0 in
@@ -52,7 +50,9 @@ module _ (n m : ℕ) (face : ℕ → Face) where
         let b : Follows (faceRing n m face (before v f)) w v = at (before v f) w v i (e .1 .0) u< (r .at-x) in
         same u (before v f) (next (faceRing n m face v) u) w (e .1 .1 .1 .0) (e .1 .1 .1 .1) (w<, (a, b))
       where
-        same : (u u′ w w′ : ℕ) → u ≡ u′ → w ≡ w′ → (w′ < n) × (Follows (faceRing n m face w′) v u′ × Follows (faceRing n m face u′) w′ v) → (w < n) × (Follows (faceRing n m face w) v u × Follows (faceRing n m face u) w v)
+        same : (u u′ w w′ : ℕ) → u ≡ u′ → w ≡ w′
+            → (w′ < n) × (Follows (faceRing n m face w′) v u′ × Follows (faceRing n m face u′) w′ v)
+            → (w < n) × (Follows (faceRing n m face w) v u × Follows (faceRing n m face u) w v)
         same u u′ w w′ p q r = rw (p, q) r
 
         at : (y x z i : ℕ) → i < m → y < n → Corner y (face i) x z → Follows (faceRing n m face y) x z
@@ -99,5 +99,7 @@ module _ (n m : ℕ) (face : ℕ → Face) where
         (λ q. absurd (true-not-false (entry-pair n m face good v c x p) (first-clear (λ y. some (pairIn n m face y v) m) n .below x (q .1))))
         (λ q. q .1)
         (lt-split x (least n m face v)) in
-        let e = trail-at (after n m face v) (least n m face v) (facesAt n m face v) 0 (omega (arith, valence-fits v h)) ∙ steps-none (after n m face v) (least n m face v) in
+        let e =
+        trail-at (after n m face v) (least n m face v) (facesAt n m face v) 0 (omega (arith, valence-fits v h))
+        ∙ steps-none (after n m face v) (least n m face v) in
         omega (arith, e, l)

@@ -2,12 +2,11 @@
 -- Assumes nothing.
 use mathlib.Core.Path.{_≡_, refl, sym, ap, _∙_, subst}
 use mathlib.Core.Bool.{Bool, true, false, cond, _&&_}
-use mathlib.Core.Logic.{_⊎_, inl, inr, ⊎-elim, _≢_}
+use mathlib.Core.Logic.{⊎-elim}
 use Prim.Native.Nat.{ℕ, _+_, _≤_, _<_, min}
 use native.Mathlib.Omega.{arith}
 use lib.Dec.{ltb, eqb}
-use lib.ListN.{length}
-use borrow.Author.Tests.{lt-ltb, le-ltb, ltb-true, eq-eqb, ne-eqb}
+use borrow.Author.Tests.{lt-ltb, le-ltb, ltb-true}
 use Rattle.mesh.specs.Search.{bit, sum}
 use Rattle.mesh.specs.Ring.{times, _∈_, has, next, prev}
 use Rattle.mesh.specs.Mesh.{Mesh, Sound}
@@ -16,9 +15,9 @@ use Rattle.mesh.proofs.Rings.{next-in, prev-in}
 use Rattle.mesh.proofs.RingsGoRound.{next-of-prev, prev-is-what-it-follows}
 use Rattle.mesh.proofs.Places.{in-has, has-in}
 use Rattle.mesh.proofs.First.{by-cases, true-not-false}
-use Rattle.mesh.proofs.Refined.{face-at, edge-ne}
 use Rattle.mesh.proofs.Faces.{cond-zero, tri, low, tri-yes, tri-cases, tri-low, all-third}
 use Rattle.off_rings.specs.Listed.{begins}
+use Rattle.off_rings.proofs.Sums.{bit-cond}
 
 -- a smaller than two numbers
 both-less : (a u w : ℕ) → ltb a w && ltb a u ≡ ltb a (min u w)
@@ -50,8 +49,7 @@ module _ (M : Mesh) (S : Sound M) where
   low-one a u b h m e = one (ltb a (min u b)) (tri M S a u b) (omega (arith, tri-yes M S a u b m e, S .proper a h .distinct u))
     where
       one : (t : Bool) (c : ℕ) → c ≡ 1 → cond t c 0 ≡ bit t
-      one true c q = q
-      one false c q = refl
+      one t c q = ap (λ k. cond t k 0) q ∙ sym (bit-cond t)
 
   begins-there : (a b : ℕ) → b ∈ M .ring a → begins M a b ≡ ltb a (min (prev (M .ring a) b) b)
   unfolding begins
@@ -68,13 +66,16 @@ module _ (M : Mesh) (S : Sound M) where
       ⊎-elim
       (λ e.
       rw (e .0, begins-there a b (q .1))
-      (sym (low-one a u b h (subst (λ x. x ∈ M .ring a) (sym (e .1)) (prev-in (M .ring a) b (q .1))) (sym (next-of-prev (M .ring a) (S .proper a h .distinct) b (q .1)) ∙ ap (next (M .ring a)) (sym (e .1)))
+      (sym
+      (low-one a u b h (subst (λ x. x ∈ M .ring a) (sym (e .1)) (prev-in (M .ring a) b (q .1)))
+      (sym (next-of-prev (M .ring a) (S .proper a h .distinct) b (q .1)) ∙ ap (next (M .ring a)) (sym (e .1)))
       ∙ ap (λ x. bit (ltb a (min x b))) (e .1))))
       (λ e. rw (e .0) (sym (low-none a u b (λ m g. e .1 (sym (prev-is-what-it-follows (M .ring a) (S .proper a h .distinct) u b m (sym g)))))))
       (eq-split u (prev (M .ring a) b)))
       (λ q.
       rw (begins-absent a b (q .1))
-      (cond-zero (eqb u (prev (M .ring a) b)) 0 refl ∙ sym (low-none a u b (λ m g. none (subst (λ x. x ∈ M .ring a) (sym g) (next-in (M .ring a) u m)) (q .1)))))
+      (cond-zero (eqb u (prev (M .ring a) b)) 0 refl
+      ∙ sym (low-none a u b (λ m g. none (subst (λ x. x ∈ M .ring a) (sym g) (next-in (M .ring a) u m)) (q .1)))))
       (lt-split 0 (times b (M .ring a)))
     where
       none : 0 < times b (M .ring a) → times b (M .ring a) ≤ 0 → ⊥
@@ -86,7 +87,9 @@ module _ (M : Mesh) (S : Sound M) where
       sum-same _ _ (M .count) (λ u k. sym (begins-low a b u h))
       ∙ ⊎-elim
       (λ q. sum-pick (prev (M .ring a) b) (bit (begins M a b)) (M .count) (S .proper a h .known _ (prev-in (M .ring a) b (q .1))))
-      (λ q. rw (begins-absent a b (q .1)) (sum-zero (λ u. cond (eqb u (prev (M .ring a) b)) 0 0) (M .count) (λ u k. cond-zero (eqb u (prev (M .ring a) b)) 0 refl)))
+      (λ q.
+      rw (begins-absent a b (q .1))
+      (sum-zero (λ u. cond (eqb u (prev (M .ring a) b)) 0 0) (M .count) (λ u k. cond-zero (eqb u (prev (M .ring a) b)) 0 refl)))
       (lt-split 0 (times b (M .ring a)))
 
   -- ---- the corners of a face that begins

@@ -5,11 +5,11 @@ use mathlib.Core.Path.{_≡_, refl, _∙_}
 use mathlib.Core.Bool.{Bool, true, false, cond}
 use mathlib.Core.List.{List, [], _∷_, _++_}
 use mathlib.Core.Logic.{inl, inr}
-use Prim.Native.Nat.{ℕ, zero, suc, _+_, _≤_, _<_}
+use Prim.Native.Nat.{ℕ, zero, suc, _<_}
 use native.Mathlib.Omega.{arith}
 use lib.ListN.{length, getD}
 use Rattle.mesh.specs.Search.{bit}
-use Rattle.mesh.specs.Ring.{times, _∈_}
+use Rattle.mesh.specs.Ring.{_∈_}
 use Rattle.mesh.specs.Mesh.{Mesh, Sound}
 use Rattle.off_rings.specs.Faces.{Face, hasPair}
 use Rattle.off_rings.specs.Listed.{Earlier, faceAt, begins, facesFrom, facesBelow, listed}

@@ -2,23 +2,23 @@
 use mathlib.Core.Path.{_≡_, refl, sym, ap, ap₂, _∙_, subst, fun-ext}
 use mathlib.Core.Bool.{Bool, true, false, cond, _&&_, _||_}
 use mathlib.Core.List.{List, [], _∷_, _++_, append-nil}
-use mathlib.Core.Logic.{_⊎_, inl, inr, ⊎-elim, _≢_}
+use mathlib.Core.Logic.{⊎-elim}
 use Prim.Native.Nat.{ℕ, zero, suc, _+_, _≤_, _<_}
-use native.Mathlib.Nat.{eq-or-lt-of-le, not-suc-le-zero}
+use native.Mathlib.Nat.{not-suc-le-zero}
 use native.Mathlib.Omega.{arith}
 use lib.Dec.{eqb}
 use lib.ListN.{length, getD, length-append, List·getD-append}
-use borrow.Author.Tests.{eq-eqb, ne-eqb}
+use lib.Seq.{getD-append-seam}
+use borrow.Author.Tests.{eq-eqb}
 use Rattle.mesh.specs.Search.{bit, sum, first, some}
 use Rattle.mesh.specs.Ring.{times, _∈_, has, place}
 use Rattle.mesh.proofs.Lists.{eq-split, lt-split}
 use Rattle.mesh.proofs.Rings.{place-lt, in-cons}
 use Rattle.mesh.proofs.Places.{in-has, has-in}
-use Rattle.mesh.proofs.First.{Clear, first-is, first-at, first-clear, first-le, some-at, some-lt, true-not-false, by-cases}
-use Rattle.off_rings.specs.Faces.{Face, corner, before, behind, hasPair, steps, trail, pairIn, facesAt, after, least, faceRing, backIn, closed}
-use Rattle.off_rings.specs.Fans.{befores, behinds, follower, smallest, fanRing, fanBack, fanCloses}
+use Rattle.mesh.proofs.First.{first-is, first-at, first-clear, some-at, true-not-false, by-cases}
+use Rattle.off_rings.specs.Faces.{Face, corner, before, behind, hasPair, steps, pairIn, facesAt, after, least, faceRing, backIn, closed}
+use Rattle.off_rings.specs.Fans.{befores, behinds, follower, smallest, fanRing, fanCloses}
 use Rattle.off_rings.proofs.Sums.{sum-some, sum-has}
-use Rattle.off_rings.proofs.Pairs.{of-pair}
 
 -- ---- one entry more at a list's end
 
@@ -38,19 +38,9 @@ place-back x (a ∷ s) h =
     (λ e. rw (e .0) (ap suc (place-back x s (omega arith))))
     (eq-split x a)
 
-getD-back : (t : List ℕ) (z : ℕ) → getD (t ++ (z ∷ [])) (length t) 0 ≡ z
-getD-back [] z = refl
-getD-back (a ∷ t) z = getD-back t z
-
 -- the first below k is the first below k + 1
 first-more : (p : ℕ → Bool) (k : ℕ) → first p k < k → first p (suc k) ≡ first p k
 first-more p k h = sym (first-is (first-clear p k) (omega arith) (first-at p k h))
-
-more : {a b : ℕ} → a ≡ b → 0 < a → 0 < b
-more e h = omega arith
-
-less : {a b : ℕ} → a ≡ b → 0 < b → 0 < a
-less e h = omega arith
 
 abbrev closesBy : (ℕ → ℕ) → ℕ → ℕ → Bool
 closesBy f x k = eqb k 0 || eqb (suc (first (λ i. eqb (steps f x (suc i)) x) k)) k
@@ -64,13 +54,15 @@ module _ (n m : ℕ) (face : ℕ → Face) (v : ℕ) where
   unfolding befores
   befores-length zero = refl
   befores-length (suc k) =
-      length-append (befores face v k) (cond (corner v (face k)) (before v (face k) ∷ []) []) ∙ ap₂ (λ a b. a + b) (befores-length k) (one-length (corner v (face k)) (before v (face k)))
+      length-append (befores face v k) (cond (corner v (face k)) (before v (face k) ∷ []) [])
+      ∙ ap₂ (λ a b. a + b) (befores-length k) (one-length (corner v (face k)) (before v (face k)))
 
   behinds-length : (k : ℕ) → length (behinds face v k) ≡ sum (λ i. bit (corner v (face i))) k
   unfolding behinds
   behinds-length zero = refl
   behinds-length (suc k) =
-      length-append (behinds face v k) (cond (corner v (face k)) (behind v (face k) ∷ []) []) ∙ ap₂ (λ a b. a + b) (behinds-length k) (one-length (corner v (face k)) (behind v (face k)))
+      length-append (behinds face v k) (cond (corner v (face k)) (behind v (face k) ∷ []) [])
+      ∙ ap₂ (λ a b. a + b) (behinds-length k) (one-length (corner v (face k)) (behind v (face k)))
 
   module _ (x : ℕ) where
     one-times : (t : Bool) (a : ℕ) → times x (cond t (a ∷ []) []) ≡ bit (t && eqb x a)
@@ -86,7 +78,10 @@ module _ (n m : ℕ) (face : ℕ → Face) (v : ℕ) where
 
     -- where x stands, what follows it comes from the first face with the pair
     Right : ℕ → Type 0
-    Right k = x ∈ befores face v k → (first (pairIn n m face x v) k < k) × (getD (behinds face v k) (place x (befores face v k)) 0 ≡ behind v (face (first (pairIn n m face x v) k)))
+    Right k =
+        x ∈ befores face v k
+        → (first (pairIn n m face x v) k < k)
+        × (getD (behinds face v k) (place x (befores face v k)) 0 ≡ behind v (face (first (pairIn n m face x v) k)))
 
     right-none : Right 0
     unfolding Right befores
@@ -111,7 +106,8 @@ module _ (n m : ℕ) (face : ℕ → Face) (v : ℕ) where
     Goal : ℕ → Type 0
     Goal k =
         (first (pairIn n m face x v) (suc k) < suc k)
-        × (getD (behinds face v k ++ (behind v (face k) ∷ [])) (place x (befores face v k ++ (before v (face k) ∷ []))) 0 ≡ behind v (face (first (pairIn n m face x v) (suc k))))
+        × (getD (behinds face v k ++ (behind v (face k) ∷ [])) (place x (befores face v k ++ (before v (face k) ∷ []))) 0
+        ≡ behind v (face (first (pairIn n m face x v) (suc k))))
 
     right-old : (k : ℕ) → 0 < times x (befores face v k) → Right k → Goal k
     unfolding Right Goal
@@ -120,7 +116,8 @@ module _ (n m : ℕ) (face : ℕ → Face) (v : ℕ) where
         let f = first-more (pairIn n m face x v) k (q .0) in (
           omega arith,
           ap (λ i. getD (behinds face v k ++ (behind v (face k) ∷ [])) i 0) (place-front x (befores face v k) (before v (face k) ∷ []) m′)
-              ∙ List·getD-append (behinds face v k) (behind v (face k) ∷ []) 0 (place x (befores face v k)) (omega (arith, place-lt x (befores face v k) m′, befores-length k, behinds-length k))
+              ∙ List·getD-append (behinds face v k) (behind v (face k) ∷ []) 0 (place x (befores face v k))
+              (omega (arith, place-lt x (befores face v k) m′, befores-length k, behinds-length k))
               ∙ q .1
               ∙ ap (λ j. behind v (face j)) (sym f),
         )
@@ -133,7 +130,7 @@ module _ (n m : ℕ) (face : ℕ → Face) (v : ℕ) where
           omega arith,
           ap (λ y. getD (behinds face v k ++ (behind v (face k) ∷ [])) (place x (befores face v k ++ (y ∷ []))) 0) (sym g)
               ∙ ap (λ i. getD (behinds face v k ++ (behind v (face k) ∷ [])) i 0) (place-back x (befores face v k) z ∙ l)
-              ∙ getD-back (behinds face v k) (behind v (face k))
+              ∙ getD-append-seam (behinds face v k) (behind v (face k)) [] 0
               ∙ ap (λ j. behind v (face j)) (sym f),
         )
 
@@ -163,15 +160,19 @@ module _ (n m : ℕ) (face : ℕ → Face) (v : ℕ) where
         go : (a : Bool) → has x (befores face v m) ≡ a → (b : Bool) → some (pairIn n m face x v) m ≡ b → has x (befores face v m) ≡ some (pairIn n m face x v) m
         go true e true g = e ∙ sym g
         go false e false g = e ∙ sym g
-        go true e false g = absurd (true-not-false (sum-some (pairIn n m face x v) m (more (befores-times m) (has-in x (befores face v m) e))) g)
-        go false e true g = absurd (true-not-false (in-has x (befores face v m) (less (befores-times m) (let s = some-at (pairIn n m face x v) m g in sum-has (pairIn n m face x v) m (first (pairIn n m face x v) m) (s .0) (s .1)))) e)
+        go true e false g = absurd (true-not-false (sum-some (pairIn n m face x v) m (subst (λ k. 0 < k) (befores-times m) (has-in x (befores face v m) e))) g)
+        go false e true g =
+            let s = some-at (pairIn n m face x v) m g in
+            let p = sum-has (pairIn n m face x v) m (first (pairIn n m face x v) m) (s .0) (s .1) in
+            absurd (true-not-false (in-has x (befores face v m) (subst (λ k. 0 < k) (sym (befores-times m)) p)) e)
 
-    pub after-follower : after n m face v x ≡ follower n (befores face v m) (behinds face v m) x
+    after-follower : after n m face v x ≡ follower n (befores face v m) (behinds face v m) x
     unfolding after follower Right
     after-follower = go (has x (befores face v m)) refl
       where
         go : (t : Bool) → has x (befores face v m) ≡ t
-            → cond (some (pairIn n m face x v) m) (behind v (face (first (pairIn n m face x v) m))) n ≡ cond (has x (befores face v m)) (getD (behinds face v m) (place x (befores face v m)) 0) n
+            → cond (some (pairIn n m face x v) m) (behind v (face (first (pairIn n m face x v) m))) n
+            ≡ cond (has x (befores face v m)) (getD (behinds face v m) (place x (befores face v m)) 0) n
         go true e = rw (← has-some, e) (sym (right m (has-in x (befores face v m) e) .1))
         go false e = rw (← has-some, e)
 
@@ -179,11 +180,7 @@ module _ (n m : ℕ) (face : ℕ → Face) (v : ℕ) where
   unfolding facesAt
   faces-length = befores-length m
 
-  pub behinds-as-long : length (behinds face v m) ≡ facesAt n m face v
-  unfolding facesAt
-  behinds-as-long = behinds-length m
-
-  pub least-smallest : least n m face v ≡ smallest n (befores face v m) (behinds face v m)
+  least-smallest : least n m face v ≡ smallest n (befores face v m) (behinds face v m)
   unfolding least smallest
   least-smallest = ap (λ p. first p n) (fun-ext (λ x. sym (has-some x)))
 

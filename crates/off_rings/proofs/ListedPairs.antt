@@ -1,15 +1,15 @@
 -- In the faces of a sound mesh, as they are listed, each ordered pair of neighbours comes once; and there are F of them. Assumes nothing.
-use mathlib.Core.Path.{_≡_, refl, sym, ap, ap₂, _∙_, subst}
-use mathlib.Core.Bool.{Bool, true, false, cond, _&&_, _||_}
+use mathlib.Core.Path.{_≡_, refl, sym, ap, _∙_, subst}
+use mathlib.Core.Bool.{Bool, true, false, cond}
 use mathlib.Core.List.{List, [], _∷_}
-use mathlib.Core.Logic.{_⊎_, inl, inr, ⊎-elim, _≢_}
-use Prim.Native.Nat.{ℕ, zero, suc, _+_, _≤_, _<_}
+use mathlib.Core.Logic.{⊎-elim, _≢_}
+use Prim.Native.Nat.{ℕ, _+_, _<_}
 use native.Mathlib.Omega.{arith}
 use lib.Dec.{eqb}
-use lib.ListN.{length, getD}
+use lib.ListN.{length}
 use borrow.Author.Tests.{eq-eqb, ne-eqb}
 use Rattle.mesh.specs.Search.{bit, sum}
-use Rattle.mesh.specs.Ring.{times, _∈_, next, prev}
+use Rattle.mesh.specs.Ring.{times, _∈_, prev}
 use Rattle.mesh.specs.Mesh.{Mesh, Sound, faces}
 use Rattle.mesh.proofs.Lists.{eq-split, sum-same, sum-add, sum-swap}
 use Rattle.mesh.proofs.Faces.{cond-zero, sum₃, low, triangles, faces-triangles}
@@ -18,17 +18,16 @@ use Rattle.mesh.proofs.Rings.{prev-in}
 use Rattle.mesh.proofs.RingsGoRound.{next-of-prev}
 use Rattle.off_rings.specs.Faces.{Face, corner, before, hasPair}
 use Rattle.off_rings.specs.Listed.{faceAt, begins, listed}
+use Rattle.off_rings.proofs.Sums.{bit-cond}
 use Rattle.off_rings.proofs.Corners.{three-ways, begins-low, begins-sum, Begun, begun}
 use Rattle.off_rings.proofs.Tallies.{sum-at, sum-cond, tally, term, tally-listed}
 
 -- ---- the three pairs of one face, by the pair's beginning
 
-bit-cond : (b : Bool) → bit b ≡ cond b 1 0
-bit-cond true = refl
-bit-cond false = refl
-
-pub pair-ways : (f : Face) → f .a ≢ f .b → f .b ≢ f .c → f .c ≢ f .a → (x v : ℕ)
-    → bit (hasPair x v f) ≡ (cond (eqb (f .a) x) (cond (eqb (f .b) v) 1 0) 0 + cond (eqb (f .b) x) (cond (eqb v (f .c)) 1 0) 0) + cond (eqb (f .a) v) (cond (eqb x (f .c)) 1 0) 0
+pair-ways : (f : Face) → f .a ≢ f .b → f .b ≢ f .c → f .c ≢ f .a → (x v : ℕ)
+    → bit (hasPair x v f)
+    ≡ (cond (eqb (f .a) x) (cond (eqb (f .b) v) 1 0) 0 + cond (eqb (f .b) x) (cond (eqb v (f .c)) 1 0) 0)
+    + cond (eqb (f .a) v) (cond (eqb x (f .c)) 1 0) 0
 unfolding hasPair corner before
 pair-ways f ab bc ca x v =
     ⊎-elim
@@ -86,9 +85,7 @@ module _ (M : Mesh) (S : Sound M) where
     ways a b h = go (begins M a b) refl
       where
         zero-of : (s t : Bool) → cond s (cond t (bit false) 0) 0 ≡ 0
-        zero-of true true = refl
-        zero-of true false = refl
-        zero-of false t = refl
+        zero-of s t = cond-zero s (cond t 0 0) (cond-zero t 0 refl)
 
         go : (t : Bool) → begins M a b ≡ t → term M (λ f. bit (hasPair x v f)) a b ≡ (first-way a b + second-way a b) + third-way a b
         go true e =
@@ -103,7 +100,8 @@ module _ (M : Mesh) (S : Sound M) where
     unfolding first-way
     first-sum =
         sum-same _ (λ a. cond (eqb a x) (bit (begins M a v)) 0) (M .count) (λ a h.
-        sum-cond (eqb a x) (λ b. cond (eqb b v) (bit (begins M a b)) 0) (M .count) ∙ ap (λ k. cond (eqb a x) k 0) (sum-at (λ b. bit (begins M a b)) v (M .count) v<))
+        sum-cond (eqb a x) (λ b. cond (eqb b v) (bit (begins M a b)) 0) (M .count)
+        ∙ ap (λ k. cond (eqb a x) k 0) (sum-at (λ b. bit (begins M a b)) v (M .count) v<))
         ∙ sum-at (λ a. bit (begins M a v)) x (M .count) x<
 
     second-sum : sum (λ a. sum (second-way a) (M .count)) (M .count) ≡ sum (λ a. low M S a v x) (M .count)
@@ -130,7 +128,8 @@ module _ (M : Mesh) (S : Sound M) where
         ∙ ap (λ k. k + sum (third-way a) n) (sum-add (first-way a) (second-way a) n)) in
         let e₁ = sum-add (λ a. sum (first-way a) n + sum (second-way a) n) (λ a. sum (third-way a) n) n in
         let e₂ = sum-add (λ a. sum (first-way a) n) (λ a. sum (second-way a) n) n in
-        omega (arith, tally-listed M (λ f. bit (hasPair x v f)), split, e₁, e₂, first-sum, second-sum, third-sum, begins-sum M S x v x<, three-ways M S x v x< v<)
+        let e₃ = tally-listed M (λ f. bit (hasPair x v f)) in
+        omega (arith, e₃, split, e₁, e₂, first-sum, second-sum, third-sum, begins-sum M S x v x<, three-ways M S x v x< v<)
 
   -- ---- how many faces are listed
 

@@ -1,15 +1,15 @@
 -- One face: its corners, ordered pairs, and what comes before and behind each. Assumes nothing.
 use mathlib.Core.Path.{_≡_, refl, sym, ap, _∙_}
-use mathlib.Core.Bool.{Bool, true, false, cond, _&&_, _||_}
+use mathlib.Core.Bool.{Bool, true, false, cond, _&&_}
 use mathlib.Core.Logic.{_⊎_, inl, inr, ⊎-elim, _≢_}
-use Prim.Native.Nat.{ℕ, _+_, _≤_, _<_}
-use native.Mathlib.Omega.{arith}
-use lib.Dec.{eqb, leb}
+use Prim.Native.Nat.{ℕ, _<_}
+use lib.Dec.{eqb}
 use borrow.Author.Tests.{eq-eqb, ne-eqb, eqb-true, eqb-false, leb-false}
 use Rattle.mesh.specs.Search.{bit, sum}
 use Rattle.mesh.proofs.Lists.{eq-split, sum-same, sum-zero, sum-pick}
 use Rattle.mesh.proofs.First.{or-false, true-not-false}
 use Rattle.off_rings.specs.Faces.{Face, badFace, corner, before, behind, hasPair}
+use Rattle.off_rings.proofs.Sums.{bit-cond}
 
 -- three corners that differ, below n
 pub record Fine (n : ℕ) (f : Face) : Type 0 where
@@ -68,7 +68,11 @@ module _ (f : Face) (ab : f .a ≢ f .b) (bc : f .b ≢ f .c) (ca : f .c ≢ f .
   which v =
       ⊎-elim
       (λ p. inr (inl (p .1)))
-      (λ p. ⊎-elim (λ q. inr (inr (inl (q .1)))) (λ q. ⊎-elim (λ r. inr (inr (inr (r .1)))) (λ r. inl (rw (p .0, q .0, r .0))) (eq-split v (f .c))) (eq-split v (f .b)))
+      (λ p.
+      ⊎-elim
+      (λ q. inr (inr (inl (q .1))))
+      (λ q. ⊎-elim (λ r. inr (inr (inr (r .1)))) (λ r. inl (rw (p .0, q .0, r .0))) (eq-split v (f .c)))
+      (eq-split v (f .b)))
       (eq-split v (f .a))
 
 pub pair-of : (x v : ℕ) (f : Face) {w : ℕ} → Corner v f x w → hasPair x v f ≡ true
@@ -92,7 +96,7 @@ pub record Round (x v w : ℕ) (f : Face) : Type 0 where
   pub at-w : Corner w f v x
   pub at-x : Corner x f w v
 
-pub turn : (x v w : ℕ) (f : Face) → Round x v w f → Round v w x f
+turn : (x v w : ℕ) (f : Face) → Round x v w f → Round v w x f
 turn x v w f r = record { at-v = r .at-w; at-w = r .at-x; at-x = r .at-v }
 
 pub round-of : (n v : ℕ) (f : Face) → Fine n f → corner v f ≡ true → Round (before v f) v (behind v f) f
@@ -135,23 +139,16 @@ behind-lt n v f k e =
     let r = turn _ _ _ f (turn _ _ _ f (round-of n v f k e)) in
     rw (← r .at-v .from) (before-lt n (before v f) f k (r .at-v .is))
 
-pub corner-lt : (n v : ℕ) (f : Face) → Fine n f → corner v f ≡ true → v < n
-corner-lt n v f k e =
-    let r = turn _ _ _ f (round-of n v f k e) in
-    rw (← r .at-v .from) (before-lt n (behind v f) f k (r .at-v .is))
-
 pub before-ne : (n v : ℕ) (f : Face) → Fine n f → corner v f ≡ true → before v f ≢ v
 before-ne n v f k e =
     ⊎-elim
     (λ p. absurd (true-not-false e p))
     (⊎-elim
     (λ q. rw (at-a f (k .ab) (k .bc) (k .ca) v q .from) (λ g. k .ca (g ∙ q)))
-    (⊎-elim (λ q. rw (at-b f (k .ab) (k .bc) (k .ca) v q .from) (λ g. k .ab (g ∙ q))) (λ q. rw (at-c f (k .ab) (k .bc) (k .ca) v q .from) (λ g. k .bc (g ∙ q)))))
+    (⊎-elim
+    (λ q. rw (at-b f (k .ab) (k .bc) (k .ca) v q .from) (λ g. k .ab (g ∙ q)))
+    (λ q. rw (at-c f (k .ab) (k .bc) (k .ca) v q .from) (λ g. k .bc (g ∙ q)))))
     (which f (k .ab) (k .bc) (k .ca) v)
-
-bit-cond : (b : Bool) → bit b ≡ cond b 1 0
-bit-cond true = refl
-bit-cond false = refl
 
 -- the pairs that end in v are as many as the faces with v
 pub pairs-to : (n v : ℕ) (f : Face) → Fine n f → sum (λ x. bit (hasPair x v f)) n ≡ bit (corner v f)
@@ -160,7 +157,8 @@ pairs-to n v f k = go (corner v f) refl
   where
     go : (t : Bool) → corner v f ≡ t → sum (λ x. bit (corner v f && eqb x (before v f))) n ≡ bit (corner v f)
     go true e =
-        sum-same (λ x. bit (corner v f && eqb x (before v f))) (λ x. cond (eqb x (before v f)) 1 0) n (λ x h. ap (λ t. bit (t && eqb x (before v f))) e ∙ bit-cond (eqb x (before v f)))
+        sum-same (λ x. bit (corner v f && eqb x (before v f))) (λ x. cond (eqb x (before v f)) 1 0) n
+        (λ x h. ap (λ t. bit (t && eqb x (before v f))) e ∙ bit-cond (eqb x (before v f)))
         ∙ sum-pick (before v f) 1 n (before-lt n v f k e)
         ∙ sym (ap bit e)
     go false e = sum-zero (λ x. bit (corner v f && eqb x (before v f))) n (λ x h. rw e) ∙ sym (ap bit e)

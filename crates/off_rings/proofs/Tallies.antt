@@ -1,5 +1,5 @@
 -- Sums over a list of faces, and over the faces of a mesh as they are listed. Assumes nothing.
-use mathlib.Core.Path.{_≡_, refl, sym, ap, ap₂, _∙_}
+use mathlib.Core.Path.{_≡_, refl, ap, ap₂, _∙_}
 use mathlib.Core.Bool.{Bool, true, false, cond}
 use mathlib.Core.List.{List, [], _∷_, _++_}
 use mathlib.Core.Logic.{⊎-elim}
@@ -15,7 +15,7 @@ use Rattle.off_rings.specs.Listed.{faceAt, begins, facesFrom, facesBelow
 
 -- ---- sums
 
-pub sum-front : (f : ℕ → ℕ) (n : ℕ) → sum f (suc n) ≡ f 0 + sum (λ i. f (suc i)) n
+sum-front : (f : ℕ → ℕ) (n : ℕ) → sum f (suc n) ≡ f 0 + sum (λ i. f (suc i)) n
 sum-front f zero = omega arith
 sum-front f (suc n) = omega (arith, sum-front f n)
 
@@ -25,7 +25,8 @@ sum-cond false h n = sum-zero (λ b. 0) n (λ i k. refl)
 
 pub sum-at : (g : ℕ → ℕ) (a n : ℕ) → a < n → sum (λ q. cond (eqb q a) (g q) 0) n ≡ g a
 sum-at g a n h =
-    sum-same (λ q. cond (eqb q a) (g q) 0) (λ q. cond (eqb q a) (g a) 0) n (λ q k. ⊎-elim (λ e. ap (λ y. cond (eqb q a) (g y) 0) (e .1)) (λ e. rw (e .0)) (eq-split q a))
+    sum-same (λ q. cond (eqb q a) (g q) 0) (λ q. cond (eqb q a) (g a) 0) n
+    (λ q k. ⊎-elim (λ e. ap (λ y. cond (eqb q a) (g y) 0) (e .1)) (λ e. rw (e .0)) (eq-split q a))
     ∙ sum-pick a (g a) n h
 
 -- ---- over a list
@@ -55,7 +56,8 @@ module _ (M : Mesh) (g : Face → ℕ) where
   unfolding facesFrom
   tally-from a zero = refl
   tally-from a (suc k) =
-      tally-append g (facesFrom M a k) (cond (begins M a k) (faceAt M a k ∷ []) []) ∙ ap₂ (λ p q. p + q) (tally-from a k) (tally-one g (begins M a k) (faceAt M a k))
+      tally-append g (facesFrom M a k) (cond (begins M a k) (faceAt M a k ∷ []) [])
+      ∙ ap₂ (λ p q. p + q) (tally-from a k) (tally-one g (begins M a k) (faceAt M a k))
 
   tally-below : (k : ℕ) → tally g (facesBelow M k) ≡ sum (λ a. sum (term a) (M .count)) k
   unfolding facesBelow

@@ -1,13 +1,11 @@
 -- Steps and trails: a walk that is back for the first time after n steps meets n numbers that differ, and each is followed by the next one. Assumes nothing.
 use mathlib.Core.Path.{_≡_, refl, sym, ap, _∙_}
-use mathlib.Core.List.{List, [], _∷_}
+use mathlib.Core.List.{List}
 use mathlib.Core.Logic.{⊎-elim, _≢_}
 use Prim.Native.Nat.{ℕ, zero, suc, _+_, _-_, _≤_, _<_}
 use native.Mathlib.Nat.{zero-add, suc-add}
 use native.Mathlib.Omega.{arith}
-use lib.Dec.{eqb}
 use lib.ListN.{length, getD}
-use borrow.Author.Tests.{eq-eqb, ne-eqb}
 use Rattle.mesh.specs.Ring.{_∈_, Distinct, next, place, placeAfter}
 use Rattle.mesh.proofs.Lists.{eq-split}
 use Rattle.mesh.proofs.Rings.{next-getD, place-lt, getD-place}
@@ -75,7 +73,14 @@ module _ (f : ℕ → ℕ) where
         let at : steps f x i ≡ y = sym (trail-at x n i h) ∙ getD-place y l 0 m in
         let go : getD l (placeAfter (length l) i) 0 ≡ f y =
         ⊎-elim
-        (λ e. rw (e .0) (trail-at x n 0 (omega arith) ∙ steps-none x ∙ sym (L .back) ∙ ap (steps f x) (sym (trail-length x n) ∙ sym (e .1)) ∙ steps-suc x i ∙ ap f at))
+        (λ e.
+        rw (e .0)
+        (trail-at x n 0 (omega arith)
+        ∙ steps-none x
+        ∙ sym (L .back)
+        ∙ ap (steps f x) (sym (trail-length x n) ∙ sym (e .1))
+        ∙ steps-suc x i
+        ∙ ap f at))
         (λ e. rw (e .0) (trail-at x n (suc i) (inside i (omega arith) (e .1)) ∙ steps-suc x i ∙ ap f at))
         (eq-split (suc i) (length l)) in
         ap (next l) (sym (getD-place y l 0 m)) ∙ next-getD l trail-distinct i (place-lt y l m) ∙ go

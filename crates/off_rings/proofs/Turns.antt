@@ -1,24 +1,25 @@
 -- The faces at one vertex: where they close into one ring, every one of them stands in it. Assumes nothing.
 use mathlib.Core.Path.{_≡_, refl, sym, ap, _∙_, subst}
-use mathlib.Core.Bool.{Bool, true, false, cond, not, _||_}
-use mathlib.Core.List.{List, [], _∷_}
-use mathlib.Core.Logic.{_⊎_, inl, inr, ⊎-elim, _≢_}
+use mathlib.Core.Bool.{Bool, true, false, not, _||_}
+use mathlib.Core.List.{List}
+use mathlib.Core.Logic.{⊎-elim, _≢_}
 use Prim.Native.Nat.{ℕ, zero, suc, _+_, _-_, _≤_, _<_}
 use native.Mathlib.Nat.{eq-or-lt-of-le}
 use native.Mathlib.Omega.{arith}
-use lib.Dec.{eqb, ltb}
-use lib.ListN.{length, getD}
-use borrow.Author.Tests.{eq-eqb, ne-eqb, eqb-true, eqb-false, ltb-true, ltb-false, le-ltb}
+use lib.Dec.{ltb}
+use lib.ListN.{length}
+use borrow.Author.Tests.{ne-eqb, eqb-true, eqb-false, le-ltb}
 use Rattle.mesh.specs.Search.{bit, sum, first, some}
-use Rattle.mesh.specs.Ring.{times, _∈_, Distinct, next, prev, place, Follows}
-use Rattle.mesh.proofs.Lists.{eq-split, lt-split, sum-same, sum-swap, sum-times, sum-bounded}
-use Rattle.mesh.proofs.Rings.{place-lt, getD-place, getD-in}
+use Rattle.mesh.specs.Ring.{times, _∈_, Distinct, next, place, Follows}
+use Rattle.mesh.proofs.Lists.{lt-split, sum-same, sum-swap, sum-times, sum-bounded}
+use Rattle.mesh.proofs.Rings.{place-lt, getD-place}
 use Rattle.mesh.proofs.RingsGoRound.{prev-is-what-it-follows}
-use Rattle.mesh.proofs.First.{Clear, first-at, first-le, first-clear, some-at, some-lt, some-not, none-some, true-not-false, by-cases}
-use Rattle.off_rings.specs.Faces.{Face, corner, before, behind, hasPair, steps, trail, pairIn, pairs, facesAt, after, least, faceRing, backIn, closed, doubled, twisted}
-use Rattle.off_rings.proofs.Sums.{sum-le, sum-equal, sum-has, sum-two, sum-some, sum-one, at-most-one}
-use Rattle.off_rings.proofs.Pairs.{Fine, Round, Corner, round-of, pair-of, of-pair, before-lt, behind-lt, corner-lt, before-ne, pairs-to}
-use Rattle.off_rings.proofs.Trails.{Loop, steps-more, steps-suc, steps-none, trail-length, trail-at, trail-distinct, trail-next}
+use Rattle.mesh.proofs.First.{first-at, first-le, first-clear, some-at, none-some, true-not-false, by-cases, or-comm}
+use Rattle.off_rings.specs.Faces.{Face, corner, before, behind, hasPair, steps, trail, pairIn, pairs, facesAt, after, least, faceRing}
+use Rattle.off_rings.specs.Faces.{backIn, closed, doubled, twisted}
+use Rattle.off_rings.proofs.Sums.{sum-equal, sum-has, sum-two, sum-some, sum-one, at-most-one}
+use Rattle.off_rings.proofs.Pairs.{Fine, Corner, round-of, pair-of, of-pair, before-lt, before-ne, pairs-to}
+use Rattle.off_rings.proofs.Trails.{Loop, steps-more, steps-suc, trail-length, trail-at, trail-distinct, trail-next}
 
 module _ (n m : ℕ) (face : ℕ → Face) (fine : (i : ℕ) → i < m → Fine n (face i)) where
   -- each face at v has one pair that ends in v
@@ -30,7 +31,9 @@ module _ (n m : ℕ) (face : ℕ → Face) (fine : (i : ℕ) → i < m → Fine 
   -- ---- one step
 
   pub after-face : (v x : ℕ) → some (pairIn n m face x v) m ≡ true
-      → (first (pairIn n m face x v) m < m) × ((hasPair x v (face (first (pairIn n m face x v) m)) ≡ true) × (after n m face v x ≡ behind v (face (first (pairIn n m face x v) m))))
+      → (first (pairIn n m face x v) m < m)
+      × ((hasPair x v (face (first (pairIn n m face x v) m)) ≡ true)
+      × (after n m face v x ≡ behind v (face (first (pairIn n m face x v) m))))
   unfolding after
   after-face v x e = let s = some-at (pairIn n m face x v) m e in (s .0, (s .1, rw e))
 
@@ -64,7 +67,8 @@ module _ (n m : ℕ) (face : ℕ → Face) (fine : (i : ℕ) → i < m → Fine 
       let x : ℕ = before v (face i) in
       let x< : x < n = before-lt n v (face i) (fine i (s .0)) (s .1) in
       let r = round-of n v (face i) (fine i (s .0)) (s .1) in
-      let has : some (pairIn n m face x v) m ≡ true = sum-some (pairIn n m face x v) m (sum-has (pairIn n m face x v) m i (s .0) (pair-of x v (face i) (r .at-v))) in
+      let has : some (pairIn n m face x v) m ≡ true =
+      sum-some (pairIn n m face x v) m (sum-has (pairIn n m face x v) m i (s .0) (pair-of x v (face i) (r .at-v))) in
       ⊎-elim
       (λ q. absurd (true-not-false has (first-clear (λ y. some (pairIn n m face y v) m) n .below x (omega arith))))
       (λ q. q)
@@ -106,7 +110,8 @@ module _ (n m : ℕ) (face : ℕ → Face) (fine : (i : ℕ) → i < m → Fine 
         let at : steps f a i ≡ x = sym (trail-at f a N i i<) ∙ getD-place x l 0 k in
         go (some (pairIn n m face x v) m) refl i i< at N>
       where
-        go : (b : Bool) → some (pairIn n m face x v) m ≡ b → (i : ℕ) → i < facesAt n m face v → steps (after n m face v) (least n m face v) i ≡ x → 0 < facesAt n m face v → some (pairIn n m face x v) m ≡ true
+        go : (b : Bool) → some (pairIn n m face x v) m ≡ b → (i : ℕ) → i < facesAt n m face v
+            → steps (after n m face v) (least n m face v) i ≡ x → 0 < facesAt n m face v → some (pairIn n m face x v) m ≡ true
         go true e i i< at N> = e
         go false e i i< at N> =
             let f : ℕ → ℕ = after n m face v in
@@ -123,7 +128,11 @@ module _ (n m : ℕ) (face : ℕ → Face) (fine : (i : ℕ) → i < m → Fine 
     ring-distinct =
         ⊎-elim
         (λ h. trail-distinct (after n m face v) (least n m face v) (facesAt n m face v) (ring-loop (h .1)))
-        (λ h x. ⊎-elim (λ k. absurd (omega (arith, ring-some x (k .1)))) (λ k. omega arith) (lt-split 0 (times x (trail (after n m face v) (least n m face v) (facesAt n m face v)))))
+        (λ h x.
+        ⊎-elim
+        (λ k. absurd (omega (arith, ring-some x (k .1))))
+        (λ k. omega arith)
+        (lt-split 0 (times x (trail (after n m face v) (least n m face v) (facesAt n m face v)))))
         (lt-split 0 (facesAt n m face v))
 
     pub ring-next : (x : ℕ) → x ∈ faceRing n m face v → next (faceRing n m face v) x ≡ after n m face v x
@@ -168,7 +177,8 @@ module _ (n m : ℕ) (face : ℕ → Face) (fine : (i : ℕ) → i < m → Fine 
         (there, ring-next x there ∙ after-face v x (entry-pair x there) .1 .1 ∙ ap (λ j. behind v (face j)) it)
 
     -- and each entry stands there by a face
-    pub entry-face : (x : ℕ) → x ∈ faceRing n m face v → (i : ℕ) × ((i < m) × ((corner v (face i) ≡ true) × ((x ≡ before v (face i)) × (next (faceRing n m face v) x ≡ behind v (face i)))))
+    pub entry-face : (x : ℕ) → x ∈ faceRing n m face v
+        → (i : ℕ) × ((i < m) × ((corner v (face i) ≡ true) × ((x ≡ before v (face i)) × (next (faceRing n m face v) x ≡ behind v (face i)))))
     entry-face x k =
         let s = after-face v x (entry-pair x k) in
         let p = of-pair x v (face (first (pairIn n m face x v) m)) (s .1 .0) in
@@ -201,7 +211,7 @@ module _ (n m : ℕ) (face : ℕ → Face) (fine : (i : ℕ) → i < m → Fine 
             let q : hasPair x v (face j) ≡ true = subst (λ y. hasPair y v (face j) ≡ true) same (pair-of _ v (face j) (at j g e)) in
             omega (arith, sum-two (pairIn n m face x v) m i j h g p q, two x (a .0))
 
-    pub not-doubled : doubled n m face v ≡ false
+    not-doubled : doubled n m face v ≡ false
     unfolding doubled
     not-doubled = none-some (λ u. ltb 1 (pairs n m face v u)) n (λ u h. le-ltb 1 (pairs n m face v u) (begins-once u))
 
@@ -210,10 +220,6 @@ module _ (n m : ℕ) (face : ℕ → Face) (fine : (i : ℕ) → i < m → Fine 
   unfolding twisted
   twisted-open v = go (closed n m face v) refl
     where
-      or-true : (b : Bool) → b || true ≡ true
-      or-true true = refl
-      or-true false = refl
-
       go : (b : Bool) → closed n m face v ≡ b → doubled n m face v || not (closed n m face v) ≡ not (closed n m face v)
       go true e = rw (e, not-doubled v e)
-      go false e = rw e (or-true (doubled n m face v))
+      go false e = rw e (or-comm (doubled n m face v) true)

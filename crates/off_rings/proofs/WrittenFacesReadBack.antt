@@ -1,30 +1,30 @@
--- The faces of a sound mesh, listed in order (order 4), are accepted, and give the same cyclic rings back, each beginning with its smallest neighbour. Assumes nothing.
-use mathlib.Core.Path.{_≡_, refl, sym, ap, ap₂, _∙_, subst}
-use mathlib.Core.Bool.{Bool, true, false, cond, not, _||_}
-use mathlib.Core.List.{List, [], _∷_}
-use mathlib.Core.Logic.{_⊎_, inl, inr, ⊎-elim, _≢_}
+-- The faces of a sound mesh, listed in order (order 4), are accepted, and give the same cyclic rings back. Assumes nothing.
+use mathlib.Core.Path.{_≡_, refl, sym, ap, _∙_, subst}
+use mathlib.Core.Bool.{true, false, not}
+use mathlib.Core.List.{List}
+use mathlib.Core.Logic.{⊎-elim, _≢_}
 use Prim.Native.Nat.{ℕ, zero, suc, _+_, _-_, _≤_, _<_}
-use native.Mathlib.Nat.{zero-add, add-zero, add-suc}
+use native.Mathlib.Nat.{add-zero}
 use native.Mathlib.Omega.{arith}
-use lib.Dec.{eqb, ltb, leb}
 use lib.ListN.{length, getD}
-use borrow.Author.Tests.{eq-eqb, ne-eqb, le-ltb, lt-leb, lt-ltb}
+use borrow.Author.Tests.{eq-eqb, ne-eqb, le-ltb, lt-leb}
 use Rattle.mesh.specs.Search.{bit, sum, first, some}
-use Rattle.mesh.specs.Ring.{times, _∈_, Distinct, next, prev, place, placeAfter}
-use Rattle.mesh.specs.Mesh.{Mesh, Sound, faces}
-use Rattle.mesh.proofs.Lists.{eq-split, lt-split, sum-same, sum-times}
-use Rattle.mesh.proofs.Rings.{place-lt, getD-place, getD-in, place-getD, next-in, prev-in}
+use Rattle.mesh.specs.Ring.{times, _∈_, Distinct, next, prev, place}
+use Rattle.mesh.specs.Mesh.{Mesh, Sound}
+use Rattle.mesh.proofs.Lists.{lt-split, sum-same, sum-times}
+use Rattle.mesh.proofs.Rings.{place-lt, getD-place, place-getD, next-in, prev-in}
 use Rattle.mesh.proofs.RingsGoRound.{next-inner, next-of-last, next-of-prev}
-use Rattle.mesh.proofs.First.{Clear, first-is, first-at, first-clear, some-at, or-both, true-not-false}
-use Rattle.off_rings.specs.Faces.{Face, badFace, corner, before, behind, hasPair, steps, trail, pairIn, pairs, facesAt, after, least, faceRing, backIn, closed, twisted, unfitFaces, faceMesh}
+use Rattle.mesh.proofs.First.{Clear, first-is, first-at, or-both, true-not-false}
+use Rattle.off_rings.specs.Faces.{Face, badFace, corner, before, behind, hasPair, steps, pairIn, pairs, facesAt, after, least, faceRing}
+use Rattle.off_rings.specs.Faces.{backIn, closed, unfitFaces}
 use Rattle.off_rings.specs.Listed.{faceAt, begins, listed}
 use Rattle.off_rings.proofs.Sums.{sum-some}
 use Rattle.off_rings.proofs.Pairs.{Fine, fine-of, Corner, which, at-a, at-b, at-c, of-pair}
 use Rattle.off_rings.proofs.Trails.{Loop, steps-suc, steps-none}
 use Rattle.off_rings.proofs.Turns.{pairs-faces, after-face, pairs-some, least-lt, ring-pairs, ring-next, entry-lt, twisted-open}
-use Rattle.off_rings.proofs.Corners.{Begun, begun}
-use Rattle.off_rings.proofs.Tallies.{tally, tally-sum, every-at, every-listed}
-use Rattle.off_rings.proofs.ListedPairs.{apart, listed-pairs, listed-count}
+use Rattle.off_rings.proofs.Corners.{begun}
+use Rattle.off_rings.proofs.Tallies.{tally-sum, every-at, every-listed}
+use Rattle.off_rings.proofs.ListedPairs.{apart, listed-pairs}
 use Rattle.off_rings.proofs.AcceptedFacesAreSound.{Taken}
 
 -- ---- going round a ring of entries that differ
@@ -45,11 +45,13 @@ module _ (l : List ℕ) (o : Distinct l) where
       let e : length l - i + suc k ≡ suc (length l - i + k) = omega arith in
       ap (steps (next l) (getD l i 0)) e ∙ steps-suc (next l) (getD l i 0) _ ∙ ap (next l) (over-end i k h (omega arith)) ∙ next-inner l o k g
 
-  pub ring-loops : (x : ℕ) → x ∈ l → Loop (next l) x (length l)
+  ring-loops : (x : ℕ) → x ∈ l → Loop (next l) x (length l)
   ring-loops x m = subst (λ y. Loop (next l) y (length l)) (getD-place x l 0 m) (record { back = back; first = first′ })
     where
       back : steps (next l) (getD l (place x l) 0) (length l) ≡ getD l (place x l) 0
-      back = let e : length l ≡ length l - place x l + place x l = omega (arith, place-lt x l m) in ap (steps (next l) (getD l (place x l) 0)) e ∙ over-end (place x l) (place x l) (place-lt x l m) (place-lt x l m)
+      back =
+          let e : length l ≡ length l - place x l + place x l = omega (arith, place-lt x l m) in
+          ap (steps (next l) (getD l (place x l) 0)) e ∙ over-end (place x l) (place x l) (place-lt x l m) (place-lt x l m)
 
       first′ : (k : ℕ) → 0 < k → k < length l → steps (next l) (getD l (place x l) 0) k ≢ getD l (place x l) 0
       first′ k p q e =
@@ -58,7 +60,10 @@ module _ (l : List ℕ) (o : Distinct l) where
           (λ h.
           let j : ℕ = place x l + k - length l in
           let r : k ≡ length l - place x l + j = omega (arith, place-lt x l m) in
-          differ j (omega (arith, place-lt x l m)) (omega (arith, place-lt x l m)) (sym (over-end (place x l) j (place-lt x l m) (omega (arith, place-lt x l m))) ∙ ap (steps (next l) (getD l (place x l) 0)) (sym r) ∙ e))
+          differ j (omega (arith, place-lt x l m)) (omega (arith, place-lt x l m))
+          (sym (over-end (place x l) j (place-lt x l m) (omega (arith, place-lt x l m)))
+          ∙ ap (steps (next l) (getD l (place x l) 0)) (sym r)
+          ∙ e))
           (lt-split (place x l + k) (length l))
         where
           differ : (j : ℕ) → j < length l → j ≢ place x l → getD l j 0 ≡ getD l (place x l) 0 → ⊥
@@ -130,14 +135,13 @@ module _ (M : Mesh) (S : Sound M) where
     module _ (v : ℕ) (v< : v < M .count) where
       pub valence-back : facesAt (M .count) m face v ≡ length (M .ring v)
       valence-back =
-          sym (pairs-faces (M .count) m face good v) ∙ sum-same _ _ (M .count) (λ x h. pairs-times x v h v<) ∙ sum-times (M .count) (M .ring v) (S .proper v v< .known)
+          sym (pairs-faces (M .count) m face good v)
+          ∙ sum-same _ _ (M .count) (λ x h. pairs-times x v h v<)
+          ∙ sum-times (M .count) (M .ring v) (S .proper v v< .known)
 
       pair-there : (x : ℕ) → x ∈ M .ring v → some (pairIn (M .count) m face x v) m ≡ true
       unfolding pairs
-      pair-there x k = sum-some (pairIn (M .count) m face x v) m (more (pairs-times x v (S .proper v v< .known x k) v<) k)
-        where
-          more : {a b : ℕ} → a ≡ b → 0 < b → 0 < a
-          more e h = omega arith
+      pair-there x k = sum-some (pairIn (M .count) m face x v) m (subst (λ j. 0 < j) (sym (pairs-times x v (S .proper v v< .known x k) v<)) k)
 
       after-back : (x : ℕ) → x ∈ M .ring v → after (M .count) m face v x ≡ next (M .ring v) x
       after-back x k =
@@ -149,40 +153,33 @@ module _ (M : Mesh) (S : Sound M) where
       valence-some : 0 < facesAt (M .count) m face v
       valence-some = omega (arith, valence-back, S .three v v<)
 
-      -- the ring begins with an entry, and no entry is smaller
-      pub least-there : least (M .count) m face v ∈ M .ring v
+      -- the walk begins at an entry of the ring
+      least-there : least (M .count) m face v ∈ M .ring v
       unfolding least
       least-there =
           let l : least (M .count) m face v < M .count = least-lt (M .count) m face good v valence-some in
           let e = first-at (λ x. some (pairIn (M .count) m face x v) m) (M .count) l in
-          more (pairs-times (least (M .count) m face v) v l v<) (pairs-some (M .count) m face good (least (M .count) m face v) v e)
-        where
-          more : {a b : ℕ} → a ≡ b → 0 < a → 0 < b
-          more e h = omega arith
-
-      pub least-smallest : (x : ℕ) → x ∈ M .ring v → least (M .count) m face v ≤ x
-      unfolding least
-      least-smallest x k =
-          ⊎-elim
-          (λ h. absurd (true-not-false (pair-there x k) (first-clear (λ y. some (pairIn (M .count) m face y v) m) (M .count) .below x (h .1))))
-          (λ h. h .1)
-          (lt-split x (least (M .count) m face v))
+          subst (λ j. 0 < j) (pairs-times (least (M .count) m face v) v l v<) (pairs-some (M .count) m face good (least (M .count) m face v) v e)
 
       walk : (k : ℕ) → steps (after (M .count) m face v) (least (M .count) m face v) k ≡ steps (next (M .ring v)) (least (M .count) m face v) k
       walk k = steps-same (after (M .count) m face v) (next (M .ring v)) (M .ring v) after-back (next-in (M .ring v)) (least (M .count) m face v) k least-there
 
-      pub closed-back : closed (M .count) m face v ≡ true
+      closed-back : closed (M .count) m face v ≡ true
       unfolding closed backIn
       closed-back =
           let n : ℕ = M .count in
           let N : ℕ = facesAt n m face v in
-          let L : Loop (next (M .ring v)) (least n m face v) (length (M .ring v)) = ring-loops (M .ring v) (S .proper v v< .distinct) (least n m face v) least-there in
+          let L : Loop (next (M .ring v)) (least n m face v) (length (M .ring v)) =
+          ring-loops (M .ring v) (S .proper v v< .distinct) (least n m face v) least-there in
           let j : ℕ = N - 1 in
           let e : suc j ≡ N = omega (arith, valence-some) in
-          let back : steps (after n m face v) (least n m face v) (suc j) ≡ least n m face v = walk (suc j) ∙ ap (steps (next (M .ring v)) (least n m face v)) (e ∙ valence-back) ∙ L .back in
+          let back : steps (after n m face v) (least n m face v) (suc j) ≡ least n m face v =
+          walk (suc j) ∙ ap (steps (next (M .ring v)) (least n m face v)) (e ∙ valence-back) ∙ L .back in
           let clear : Clear (backIn n m face v) j =
           record {
-            below = λ k h. ne-eqb (steps (after n m face v) (least n m face v) (suc k)) (least n m face v) (λ g. L .first (suc k) (omega arith) (omega (arith, valence-back, e)) (sym (walk (suc k)) ∙ g));
+            below = λ k h.
+                ne-eqb (steps (after n m face v) (least n m face v) (suc k)) (least n m face v)
+                (λ g. L .first (suc k) (omega arith) (omega (arith, valence-back, e)) (sym (walk (suc k)) ∙ g));
           } in
           let is : j ≡ first (backIn n m face v) N = first-is clear (omega arith) (eq-eqb _ _ back) in
           rw (ne-eqb N 0 (omega (arith, valence-some))) (eq-eqb (suc (first (backIn n m face v) N)) N (omega arith))

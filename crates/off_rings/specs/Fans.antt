@@ -1,4 +1,5 @@
--- The faces at one vertex as two lists, in the order of the faces: what comes before the vertex in each, and what comes behind it. What code keeps of a vertex while it judges it.
+-- The faces at one vertex as two lists, in the order of the faces: what comes before the vertex in each, and what comes behind it.
+-- What code keeps of a vertex while it judges it.
 -- Assumes nothing.
 use mathlib.Core.Bool.{Bool, cond, _||_}
 use mathlib.Core.List.{List, [], _∷_, _++_}

@@ -1,18 +1,18 @@
 -- Reading back what was written (document 02, order 4), in the lent tables: the text that an accepted writing leaves is accepted by
 -- reading into any tables with room for V, which answers V and leaves the same points and the same rings, up to where each begins.
 -- Assumes nothing.
-use mathlib.Core.Path.{_≡_, refl, sym, ap, ap₂, _∙_, subst}
-use mathlib.Core.Bool.{Bool, true, false, cond, not, _||_}
-use mathlib.Core.List.{List, [], _∷_}
-use Prim.Native.Nat.{ℕ, zero, suc, _+_, _*_, _≤_, _<_}
+use mathlib.Core.Path.{_≡_, sym, ap, _∙_, subst}
+use mathlib.Core.Bool.{false}
+use mathlib.Core.List.{List}
+use Prim.Native.Nat.{ℕ, _*_, _≤_, _<_}
 use native.Mathlib.Omega.{arith}
 use lib.Dec.{ltb}
 use lib.IntN.{ℤ, pos, negsuc, natAbs}
-use lib.ListN.{length, getD}
+use lib.ListN.{length}
 use borrow.Author.Tests.{le-ltb}
 use Rattle.mesh.specs.Search.{sum}
 use Rattle.mesh.specs.Ring.{times, _∈_, Distinct, next, SameRound}
-use Rattle.mesh.specs.Mesh.{Mesh, Sound, valences, edges, faces}
+use Rattle.mesh.specs.Mesh.{Mesh, valences, edges, faces}
 use Rattle.mesh.proofs.Lists.{sum-same, sum-times, sum-bounded}
 use Rattle.mesh.proofs.SameRounds.{round-by-next}
 use Rattle.mesh.proofs.Edges.{handshake}
@@ -20,22 +20,21 @@ use Rattle.mesh.proofs.Faces.{three-faces}
 use Rattle.mesh.proofs.First.{or-both}
 use Rattle.units.specs.Coordinate.{InRange, beyond}
 use Rattle.rings.specs.Table.{ringOf, rows, coordinateAt}
-use Rattle.rings.specs.Verdict.{refuseIf, refuseAt, andThen, withAmount}
+use Rattle.rings.specs.Verdict.{andThen, withAmount}
 use Rattle.rings.specs.Check.{badCount, shortTables, checkVerdict}
 use Rattle.rings.specs.Accepts.{Accepts}
 use Rattle.rings.specs.declared.Verdict.{Verdict}
-use Rattle.rings.specs.declared.Verdict.the-variants.{Accepted, Refused}
+use Rattle.rings.specs.declared.Verdict.the-variants.{Accepted}
 use Rattle.rings.specs.declared.Amount.the-variants.{Of}
 use Rattle.rings.proofs.Rows.{rows-ring}
 use Rattle.rings.proofs.Verdicts.{then-accepted, if-clear, at-clear}
 use Rattle.rings.proofs.Accepted.{accepted-only}
-use Rattle.off_rings.specs.Faces.{twisted, unfitFaces, faceRing}
-use Rattle.off_rings.proofs.AcceptedFacesAreSound.{Taken}
-use Rattle.off_text.specs.Layout.{textCount, textFaces, textFace, textPoint, textVerdict}
+use Rattle.off_rings.specs.Faces.{faceRing}
+use Rattle.off_text.specs.Layout.{textCount, textFaces, textFace, textPoint}
 use Rattle.off_text.specs.ReadOff.{textBeyond, readOffVerdict, readOffAnswer, readOffValences, readOffRings, readOffPositions}
-use Rattle.off_text.specs.WriteOff.{textOf, text, writeOffVerdict}
+use Rattle.off_text.specs.WriteOff.{text, writeOffVerdict}
 use Rattle.off_text.proofs.NumbersRead.{Held}
-use Rattle.off_text.proofs.WrittenTextReadsBack.{Writable, V-back, F-back, points-back, text-accepted, faces-taken, entries-back, rings-back}
+use Rattle.off_text.proofs.WrittenTextReadsBack.{Writable, V-back, points-back, text-accepted, faces-taken, entries-back, rings-back}
 use Rattle.off_text.proofs.ReadingIsChecked.{ring-read, point-read}
 
 then-both : (a b : Verdict) → a ≡ Accepted → b ≡ Accepted → andThen a b ≡ Accepted
@@ -97,7 +96,8 @@ module _ (n : ℕ) (vs rs : List ℕ) (ps : List ℤ) (room : List ℕ) (h : wri
         let A = accepted-only n vs rs ps checked in
         let k = faces-taken (rows n vs rs) (coordinateAt ps) W in
         then-both _ _ (text-accepted (rows n vs rs) (coordinateAt ps) W)
-        (if-clear _ _ _ (or-both _ _ (le-ltb (textCount t) 4 (omega (arith, count-back, A .low))) (le-ltb 1024 (textCount t) (omega (arith, count-back, A .high))))
+        (if-clear _ _ _
+        (or-both _ _ (le-ltb (textCount t) 4 (omega (arith, count-back, A .low))) (le-ltb 1024 (textCount t) (omega (arith, count-back, A .high))))
         ∙ if-clear _ _ _ (subst (λ m. shortTables m vs′ rs′ ps′ ≡ false) (sym count-back) long)
         ∙ at-clear _ (textCount t) _ _ (k .closes)
         ∙ at-clear _ (textCount t) _ _ (k .fits)
@@ -108,16 +108,19 @@ module _ (n : ℕ) (vs rs : List ℕ) (ps : List ℤ) (room : List ℕ) (h : wri
     read-answers-V = rw read-accepted (ap Of count-back)
 
     -- the points
-    pub points-as-written : (v : ℕ) → v < n → (axis : ℕ) → axis < 3 → coordinateAt (readOffPositions (text n vs rs ps room) vs′ rs′ ps′) axis v ≡ coordinateAt ps axis v
+    pub points-as-written : (v : ℕ) → v < n → (axis : ℕ) → axis < 3
+        → coordinateAt (readOffPositions (text n vs rs ps room) vs′ rs′ ps′) axis v ≡ coordinateAt ps axis v
     unfolding rows
     points-as-written v l axis a =
-        point-read (text n vs rs ps room) vs′ rs′ ps′ read-accepted v (subst (λ m. v < m) (sym count-back) l) axis a ∙ points-back (rows n vs rs) (coordinateAt ps) W v l axis a
+        point-read (text n vs rs ps room) vs′ rs′ ps′ read-accepted v (subst (λ m. v < m) (sym count-back) l) axis a
+        ∙ points-back (rows n vs rs) (coordinateAt ps) W v l axis a
 
     -- the rings
     abbrev pub ringRead : ℕ → List ℕ
     ringRead v = ringOf (readOffValences (text n vs rs ps room) vs′ rs′ ps′) (readOffRings (text n vs rs ps room) vs′ rs′ ps′) v
 
-    ring-is-read : (v : ℕ) → v < n → ringRead v ≡ faceRing (textCount (text n vs rs ps room)) (textFaces (text n vs rs ps room)) (textFace (text n vs rs ps room)) v
+    ring-is-read : (v : ℕ) → v < n
+        → ringRead v ≡ faceRing (textCount (text n vs rs ps room)) (textFaces (text n vs rs ps room)) (textFace (text n vs rs ps room)) v
     ring-is-read v l = ring-read (text n vs rs ps room) vs′ rs′ ps′ read-accepted v (subst (λ m. v < m) (sym count-back) l)
 
     pub entries-as-written : (v : ℕ) → v < n → (x : ℕ) → times x (ringRead v) ≡ times x (ringOf vs rs v)

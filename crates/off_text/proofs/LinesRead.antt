@@ -1,12 +1,11 @@
 -- Lines that were written are read back. Assumes nothing.
-use mathlib.Core.Path.{_≡_, refl, sym, ap, ap₂, _∙_, subst}
-use mathlib.Core.Bool.{Bool, true, false, cond, not, _&&_}
+use mathlib.Core.Path.{_≡_, refl, sym, ap, _∙_, subst}
+use mathlib.Core.Bool.{true, false}
 use mathlib.Core.List.{List, [], _∷_, _++_, append-assoc, append-nil}
-use mathlib.Core.Logic.{_⊎_, inl, inr, ⊎-elim, _≢_}
+use mathlib.Core.Logic.{_⊎_, inl, ⊎-elim}
 use Prim.Native.Nat.{ℕ, zero, suc, _+_, _*_, _≤_, _<_}
-use native.Mathlib.Nat.{add-zero, add-assoc, eq-or-lt-of-le}
+use native.Mathlib.Nat.{add-zero, eq-or-lt-of-le, le-of-suc-le-suc}
 use native.Mathlib.Omega.{arith}
-use lib.Dec.{ltb, eqb}
 use lib.IntN.{ℤ}
 use lib.ListN.{length, getD, length-append}
 use borrow.Author.Tests.{eq-eqb}
@@ -14,10 +13,11 @@ use Rattle.rings.specs.Table.{gather}
 use Rattle.numerals.specs.Numerals.{number, signed}
 use Rattle.off_numbers.specs.Text.{byteAt, valueAt, afterAt, isNumber, isUnit, unitAt, afterUnit}
 use Rattle.off_rings.specs.Faces.{Face, badFace}
-use Rattle.off_text.specs.Layout.{isWord, textCount, textFaces, textEdges, isCounts, isVertex, afterVertex, vertexAt, axisAt, cornersAt, isCorners, isFace, afterFace}
+use Rattle.off_text.specs.Layout.{isWord, textCount, textFaces, textEdges, isCounts}
+use Rattle.off_text.specs.Layout.{isVertex, afterVertex, vertexAt, axisAt, cornersAt, isCorners, isFace, afterFace}
 use Rattle.off_text.specs.WriteOff.{word, countsLine, vertexLine, faceLine, faceLines}
 use Rattle.off_text.proofs.Standing.{Stands, stands-front, stands-back, stands-at}
-use Rattle.off_text.proofs.NumbersRead.{NumberRead, number-read, UnitRead, unit-read, Held}
+use Rattle.off_text.proofs.NumbersRead.{number-read, unit-read, Held}
 
 blank-other : (32 < 48) ⊎ (57 < 32)
 blank-other = inl (omega arith)
@@ -36,10 +36,11 @@ pub record ThreeRead (s : List ℕ) (at a b c next : ℕ) : Type 0 where
   pub c-is : valueAt s (afterAt s (afterAt s at)) ≡ c
   pub behind : afterAt s (afterAt s (afterAt s at)) ≡ next
 
-abbrev pub three : ℕ → ℕ → ℕ → List ℕ
+abbrev three : ℕ → ℕ → ℕ → List ℕ
 three a b c = number a 32 ++ (number b 32 ++ number c 10)
 
-pub three-read : (s : List ℕ) (at a b c : ℕ) → a < 4294967296 → b < 4294967296 → c < 4294967296 → Stands s at (three a b c) → ThreeRead s at a b c (at + length (three a b c))
+three-read : (s : List ℕ) (at a b c : ℕ) → a < 4294967296 → b < 4294967296 → c < 4294967296 → Stands s at (three a b c)
+    → ThreeRead s at a b c (at + length (three a b c))
 three-read s at a b c ha hb hc k =
     let rest : List ℕ = number b 32 ++ number c 10 in
     let r₁ = number-read s at a 32 ha blank-other (stands-front s at (number a 32) rest k) 4294967296 ha in
@@ -79,7 +80,7 @@ module _ (s : List ℕ) (v f e : ℕ) (hv : v < 4294967296) (hf : f < 4294967296
   unfolding textFaces
   faces-is = counts-three .b-is
 
-  pub edges-is : textEdges s ≡ e
+  edges-is : textEdges s ≡ e
   unfolding textEdges
   edges-is = counts-three .c-is
 
@@ -98,7 +99,8 @@ pub record VertexRead (s : List ℕ) (at : ℕ) (point : ℕ → ℤ) : Type 0 w
   pub z-is : unitAt s (axisAt s at 2) ≡ point 2
   pub behind : afterVertex s at ≡ at + length (vertexLine point)
 
-pub vertex-read : (s : List ℕ) (at : ℕ) (point : ℕ → ℤ) → Held (point 0) → Held (point 1) → Held (point 2) → Stands s at (vertexLine point) → VertexRead s at point
+pub vertex-read : (s : List ℕ) (at : ℕ) (point : ℕ → ℤ) → Held (point 0) → Held (point 1) → Held (point 2) → Stands s at (vertexLine point)
+    → VertexRead s at point
 unfolding isVertex axisAt afterVertex vertexLine
 vertex-read s at point hx hy hz k =
     let a : List ℕ = signed (point 0) 32 in
@@ -127,7 +129,8 @@ pub record FaceRead (s : List ℕ) (at : ℕ) (f : Face) : Type 0 where
   pub corners : cornersAt s at ≡ f
   pub behind : afterFace s at ≡ at + length (faceLine f)
 
-pub face-read : (s : List ℕ) (at : ℕ) (f : Face) → f .a < 4294967296 → f .b < 4294967296 → f .c < 4294967296 → Stands s at (faceLine f) → FaceRead s at f
+pub face-read : (s : List ℕ) (at : ℕ) (f : Face) → f .a < 4294967296 → f .b < 4294967296 → f .c < 4294967296 → Stands s at (faceLine f)
+    → FaceRead s at f
 unfolding isFace isCorners cornersAt afterFace faceLine
 face-read s at f ha hb hc k =
     let head : List ℕ = 51 ∷ 32 ∷ [] in
@@ -143,21 +146,20 @@ face-read s at f ha hb hc k =
       behind = r .behind ∙ omega arith;
     }
   where
-    corners-are : (s : List ℕ) (at : ℕ) (f : Face) → valueAt s (at + 2) ≡ f .a → valueAt s (afterAt s (at + 2)) ≡ f .b → valueAt s (afterAt s (afterAt s (at + 2))) ≡ f .c → cornersAt s at ≡ f
+    corners-are : (s : List ℕ) (at : ℕ) (f : Face)
+        → valueAt s (at + 2) ≡ f .a → valueAt s (afterAt s (at + 2)) ≡ f .b → valueAt s (afterAt s (afterAt s (at + 2))) ≡ f .c
+        → cornersAt s at ≡ f
     corners-are s at f p q r = rw (p, q, r)
 
 -- ---- lines one after the other
 
-pub gather-stands : (s : List ℕ) (base : ℕ) (f : ℕ → List ℕ) (n v : ℕ) → Stands s base (gather f n) → v < n → Stands s (base + length (gather f v)) (f v)
+gather-stands : (s : List ℕ) (base : ℕ) (f : ℕ → List ℕ) (n v : ℕ) → Stands s base (gather f n) → v < n → Stands s (base + length (gather f v)) (f v)
 gather-stands s base f zero v k h = absurd (omega arith)
 gather-stands s base f (suc n) v k h =
     ⊎-elim
     (λ e. subst (λ i. Stands s (base + length (gather f i)) (f i)) (sym e) (stands-back s base (gather f n) (f n) k))
     (λ l. gather-stands s base f n v (stands-front s base (gather f n) (f n) k) l)
-    (last v n h)
-  where
-    last : (v n : ℕ) → v < suc n → (v ≡ n) ⊎ (v < n)
-    last v n h = eq-or-lt-of-le (omega arith)
+    (eq-or-lt-of-le (le-of-suc-le-suc h))
 
 module _ (s : List ℕ) (base : ℕ) (f : ℕ → List ℕ) (n : ℕ) (place : ℕ → ℕ) (k : Stands s base (gather f n)) (start : place 0 ≡ base)
     (step : (v : ℕ) → v < n → Stands s (place v) (f v) → place (suc v) ≡ place v + length (f v)) where

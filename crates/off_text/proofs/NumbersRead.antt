@@ -25,7 +25,7 @@ unfolding digitAt
 digit-is s at b e h g = rw (e, le-leb 48 b h, le-leb b 57 g)
 
 -- what is read where the digits of n stand
-pub record Digits (s : List ℕ) (at n k : ℕ) : Type 0 where
+record Digits (s : List ℕ) (at n k : ℕ) : Type 0 where
   pub some : 0 < k
   pub all : (i : ℕ) → i < k → digitAt s (at + i) ≡ true
   pub worth : valueOf s at k ≡ n
@@ -53,7 +53,11 @@ module _ (s : List ℕ) (at : ℕ) where
   unfolding valueOf
   digits-read-more n k d h g e b r = record {
     some = omega arith;
-    all = λ i l. ⊎-elim (λ q. r .all i (q .1)) (λ q. subst (λ j. digitAt s (at + j) ≡ true) (last i l (q .1)) (digit-is s (at + k) (48 + d) b (omega arith) (omega arith))) (lt-split i k);
+    all = λ i l.
+        ⊎-elim
+        (λ q. r .all i (q .1))
+        (λ q. subst (λ j. digitAt s (at + j) ≡ true) (last i l (q .1)) (digit-is s (at + k) (48 + d) b (omega arith) (omega arith)))
+        (lt-split i k);
     worth = rw (add-one k, r .worth, b) (omega arith);
     one = λ q. h;
     front = λ q. r .front (omega arith);
@@ -65,17 +69,19 @@ module _ (s : List ℕ) (at : ℕ) where
   small : (j n : ℕ) → n < 10 → Stands s at (digits (suc j) n) → Digits s at n (length (digits (suc j) n))
   small j n h k = rw (digits-small j n h) (digits-read-small n h (rw (digits-small j n h) at k))
 
-  big : (j n : ℕ) → 10 ≤ n → Stands s at (digits (suc (suc j)) n) → (Stands s at (digits (suc j) (n / 10)) → Digits s at (n / 10) (length (digits (suc j) (n / 10))))
+  big : (j n : ℕ) → 10 ≤ n → Stands s at (digits (suc (suc j)) n)
+      → (Stands s at (digits (suc j) (n / 10)) → Digits s at (n / 10) (length (digits (suc j) (n / 10))))
       → Digits s at n (length (digits (suc (suc j)) n))
   big j n h k f =
       let l : List ℕ = digits (suc j) (n / 10) in
       let k′ : Stands s at (l ++ (digit (n % 10) ∷ [])) = rw (digits-big (suc j) n h) at k in
-      let b : byteAt s (at + length l) ≡ 48 + n % 10 = ap (byteAt s) (sym (add-zero (at + length l))) ∙ stands-back s at l (digit (n % 10) ∷ []) k′ .byte 0 (omega arith) in
+      let b : byteAt s (at + length l) ≡ 48 + n % 10 =
+      ap (byteAt s) (sym (add-zero (at + length l))) ∙ stands-back s at l (digit (n % 10) ∷ []) k′ .byte 0 (omega arith) in
       rw (digits-big (suc j) n h, length-append l (digit (n % 10) ∷ []))
       (digits-read-more n (length l) (n % 10) h (mod-lt n (lit< tt)) (div-add-mod' n 10) b (f (stands-front s at l (digit (n % 10) ∷ []) k′)))
 
   -- with at most j + 1 of them
-  pub digits-read : (j n : ℕ) → n < tens (suc j) → Stands s at (digits (suc j) n) → Digits s at n (length (digits (suc j) n))
+  digits-read : (j n : ℕ) → n < tens (suc j) → Stands s at (digits (suc j) n) → Digits s at n (length (digits (suc j) n))
   unfolding tens
   digits-read zero n h k = small 0 n (omega arith) k
   digits-read (suc j) n h k =
@@ -96,26 +102,27 @@ pub record NumberRead (s : List ℕ) (at n bound last next : ℕ) : Type 0 where
   pub behind : afterAt s at ≡ next
 
 module _ (s : List ℕ) (at n last : ℕ) (n< : n < 4294967296) (other : (last < 48) ⊎ (57 < last)) (k : Stands s at (number n last)) where
-  size : ℕ
+  -- how many digits
+  abbrev size : ℕ
   size = length (digits 20 n)
 
   front : Stands s at (digits 20 n)
   unfolding number
   front = stands-front s at (digits 20 n) (last ∷ []) k
 
-  behind-byte : byteAt s (at + length (digits 20 n)) ≡ last
+  behind-byte : byteAt s (at + size) ≡ last
   unfolding number
-  behind-byte = ap (byteAt s) (sym (add-zero (at + length (digits 20 n)))) ∙ stands-back s at (digits 20 n) (last ∷ []) k .byte 0 (omega arith)
+  behind-byte = ap (byteAt s) (sym (add-zero (at + size))) ∙ stands-back s at (digits 20 n) (last ∷ []) k .byte 0 (omega arith)
 
-  read : Digits s at n (length (digits 20 n))
+  read : Digits s at n size
   unfolding tens
   read = digits-read s at 19 n (omega arith) front
 
-  short : length (digits 20 n) ≤ 10
+  short : size ≤ 10
   unfolding tens
   short = digits-length 20 10 n (omega arith) (omega arith)
 
-  stops : digitAt s (at + length (digits 20 n)) ≡ false
+  stops : digitAt s (at + size) ≡ false
   unfolding digitAt
   stops = ⊎-elim (λ h. rw (behind-byte, lt-leb 48 last h)) (λ h. rw (behind-byte, lt-leb last 57 h) (and-false (leb 48 last))) other
     where
@@ -123,30 +130,32 @@ module _ (s : List ℕ) (at n last : ℕ) (n< : n < 4294967296) (other : (last <
       and-false true = refl
       and-false false = refl
 
-  run-is : runAt s at ≡ length (digits 20 n)
+  run-is : runAt s at ≡ size
   unfolding runAt
   run-is = sym (first-is (record { below = λ i h. ap not (read .all i h) }) (omega (arith, short)) (ap not stops))
 
-  not-padded : padded s at (length (digits 20 n)) ≡ false
+  not-padded : padded s at size ≡ false
   unfolding padded
-  not-padded = go (eqb (length (digits 20 n)) 1) refl
+  not-padded = go (eqb size 1) refl
     where
-      go : (t : Bool) → eqb (length (digits 20 n)) 1 ≡ t → not (eqb (length (digits 20 n)) 1) && eqb (byteAt s at) 48 ≡ false
+      go : (t : Bool) → eqb size 1 ≡ t → not (eqb size 1) && eqb (byteAt s at) 48 ≡ false
       go true e = rw e
       go false e = rw (e, ne-eqb (byteAt s at) 48 (read .front (omega (arith, read .one (eqb-false _ _ e)))))
 
   pub number-read : (bound : ℕ) → n < bound → NumberRead s at n bound last (at + length (number n last))
   unfolding isNumber valueAt afterAt number
   number-read bound h = record {
-    is = rw (run-is, ne-eqb (length (digits 20 n)) 0 (omega (arith, read .some)), not-padded, read .worth, lt-ltb n bound h, behind-byte) (eq-eqb last last refl);
+    is = rw (run-is, ne-eqb size 0 (omega (arith, read .some)), not-padded, read .worth, lt-ltb n bound h, behind-byte) (eq-eqb last last refl);
     worth = rw run-is (read .worth);
     behind = rw (run-is, length-append (digits 20 n) (last ∷ [])) (omega arith);
   }
 
   -- it begins with a digit
-  pub no-minus : minusAt s at ≡ false
+  no-minus : minusAt s at ≡ false
   unfolding minusAt digitAt
-  no-minus = ne-eqb (byteAt s at) 45 (λ e. absurd (digit-no (byteAt s at) e (ap (λ j. leb 48 (byteAt s j) && leb (byteAt s j) 57) (sym (add-zero at)) ∙ read .all 0 (read .some))))
+  no-minus =
+      ne-eqb (byteAt s at) 45 (λ e.
+      absurd (digit-no (byteAt s at) e (ap (λ j. leb 48 (byteAt s j) && leb (byteAt s j) 57) (sym (add-zero at)) ∙ read .all 0 (read .some))))
     where
       digit-no : (b : ℕ) → b ≡ 45 → leb 48 b && leb b 57 ≡ true → ⊥
       digit-no b e q = true-not-false q (rw (lt-leb 48 b (omega arith)))
@@ -176,7 +185,8 @@ module _ (s : List ℕ) (at last : ℕ) (other : (last < 48) ⊎ (57 < last)) wh
         behind = rw m (ap (afterAt s) (add-zero at) ∙ r .behind);
       }
   unit-read (negsuc n) h k =
-      let m : eqb (byteAt s at) 45 ≡ true = eq-eqb (byteAt s at) 45 (ap (byteAt s) (sym (add-zero at)) ∙ stands-front s at (45 ∷ []) (number (suc n) last) k .byte 0 (omega arith)) in
+      let m : eqb (byteAt s at) 45 ≡ true =
+      eq-eqb (byteAt s at) 45 (ap (byteAt s) (sym (add-zero at)) ∙ stands-front s at (45 ∷ []) (number (suc n) last) k .byte 0 (omega arith)) in
       let r = number-read s (at + 1) (suc n) last (omega arith) other (stands-back s at (45 ∷ []) (number (suc n) last) k) 2147483649 (omega arith) in
       record {
         is = rw (m, r .is, r .worth) (lt-ltb 0 (suc n) (omega arith));

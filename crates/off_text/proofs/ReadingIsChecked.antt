@@ -1,39 +1,37 @@
 -- An accepted reading of a face list (order 4) leaves tables that the check accepts, with V vertices and the rings that the faces mean.
 -- Assumes nothing.
-use mathlib.Core.Path.{_≡_, refl, sym, ap, ap₂, _∙_, subst, fun-ext}
-use mathlib.Core.Bool.{Bool, true, false, cond, not, _&&_, _||_}
+use mathlib.Core.Path.{_≡_, refl, ap, fun-ext, subst, sym}
+use mathlib.Core.Bool.{true, false, not, _||_}
 use mathlib.Core.List.{List, [], _∷_}
 use mathlib.Core.Logic.{⊎-elim}
-use Prim.Native.Nat.{ℕ, zero, suc, _+_, _*_, _≤_, _<_}
+use Prim.Native.Nat.{ℕ, zero, suc, _*_, _≤_, _<_}
 use native.Mathlib.Omega.{arith}
 use lib.Dec.{ltb}
 use lib.IntN.{ℤ, natAbs}
 use lib.ListN.{length, getD}
 use borrow.Author.Tests.{lt-ltb, ltb-false, not-false, not-true}
-use Rattle.mesh.specs.Mesh.{Mesh, mesh, Sound}
+use Rattle.mesh.specs.Ring.{_∈_}
+use Rattle.mesh.specs.Mesh.{mesh, Sound}
 use Rattle.mesh.proofs.Lists.{lt-split}
-use Rattle.mesh.proofs.First.{Clear, or-false, true-not-false}
+use Rattle.mesh.proofs.First.{Clear, or-false}
 use Rattle.units.specs.Coordinate.{InRange, beyond}
 use Rattle.rings.specs.Table.{gather, put, ringOf, rows, padded, valenceRows, ringRows, pointRows, coordinateAt}
-use Rattle.rings.specs.Verdict.{refuseIf, refuseAt, andThen, after}
+use Rattle.rings.specs.Verdict.{after}
 use Rattle.rings.specs.Check.{badCount, shortTables, checkVerdict}
-use Rattle.rings.specs.Accepts.{Room, Accepts}
-use Rattle.rings.specs.declared.Verdict.{Verdict}
-use Rattle.rings.specs.declared.Verdict.the-variants.{Accepted, Refused}
+use Rattle.rings.specs.Accepts.{Room}
+use Rattle.rings.specs.declared.Verdict.the-variants.{Accepted}
 use Rattle.rings.proofs.Tables.{length-put, length-gather, length-padded}
 use Rattle.rings.proofs.Verdicts.{if-accepted, at-accepted, then-accepted}
 use Rattle.rings.proofs.Checks.{good-count, long-tables}
 use Rattle.rings.proofs.Accepted.{accepted-all}
 use Rattle.meshfile.proofs.Gathered.{length-rows-below}
 use Rattle.meshfile.proofs.InTables.{in-valence, in-ring, in-point}
-use Rattle.off_rings.specs.Faces.{Face, badFace, twisted, unfitFaces, facesAt, faceRing, faceMesh}
-use Rattle.off_rings.proofs.AcceptedFacesAreSound.{Taken, taken-sound, ring-is}
-use Rattle.off_text.specs.Layout.{isWord, isCounts, isVertex, vertexAt, isCorners, isFace, faceLineAt, cornersAt, textCount, textFaces, textFace, textPoint, textVerdict}
+use Rattle.off_numbers.proofs.Scanning.{and-true}
+use Rattle.off_rings.specs.Faces.{badFace, twisted, unfitFaces, faceRing, faceMesh}
+use Rattle.off_rings.proofs.AcceptedFacesAreSound.{Taken, taken-sound, begins-with-smallest}
+use Rattle.off_text.specs.Layout.{isWord, isCounts, isVertex, vertexAt, isCorners, isFace, faceLineAt, cornersAt}
+use Rattle.off_text.specs.Layout.{textCount, textFaces, textFace, textPoint, textVerdict}
 use Rattle.off_text.specs.ReadOff.{textRing, textBeyond, readOffVerdict, readOffValences, readOffRings, readOffPositions}
-
-and-true : (a b : Bool) → a && b ≡ true → (a ≡ true) × (b ≡ true)
-and-true true b e = (refl, e)
-and-true false b e = absurd (true-not-false e refl)
 
 face-good : (s : List ℕ) (at : ℕ) → isFace s at ≡ true → badFace (textCount s) (cornersAt s at) ≡ false
 unfolding isFace
@@ -51,7 +49,7 @@ good-faces s h i l =
 
 module _ (s vs rs : List ℕ) (ps : List ℤ) where
   -- the stages of an accepted reading
-  pub record Passed : Type 0 where
+  record Passed : Type 0 where
     pub text : textVerdict s ≡ Accepted
     pub counted : badCount (textCount s) ≡ false
     pub long : shortTables (textCount s) vs rs ps ≡ false
@@ -59,7 +57,7 @@ module _ (s vs rs : List ℕ) (ps : List ℤ) where
     pub fit : Clear (unfitFaces (textCount s) (textFaces s) (textFace s)) (textCount s)
     pub near : Clear (textBeyond s) (textCount s)
 
-  pub passed : readOffVerdict s vs rs ps ≡ Accepted → Passed
+  passed : readOffVerdict s vs rs ps ≡ Accepted → Passed
   unfolding readOffVerdict
   passed h =
       let t = then-accepted (textVerdict s) _ h in
@@ -71,7 +69,7 @@ module _ (s vs rs : List ℕ) (ps : List ℤ) where
       record { text = t .0; counted = a .0; long = b .0; closed = c .0; fit = d .0; near = e .0 }
 
   module _ (h : readOffVerdict s vs rs ps ≡ Accepted) where
-    pub taken : Taken (textCount s) (textFaces s) (textFace s)
+    taken : Taken (textCount s) (textFaces s) (textFace s)
     taken = let p = passed h in record { fine = good-faces s (p .text); closes = p .closed .below; fits = p .fit .below }
 
     mesh-sound : Sound (mesh (textCount s) (faceRing (textCount s) (textFaces s) (textFace s)))
@@ -95,7 +93,8 @@ module _ (s vs rs : List ℕ) (ps : List ℤ) where
     new-positions = rw h
 
     -- the ring of v in the tables
-    pub ring-read : (v : ℕ) → v < textCount s → ringOf (readOffValences s vs rs ps) (readOffRings s vs rs ps) v ≡ faceRing (textCount s) (textFaces s) (textFace s) v
+    pub ring-read : (v : ℕ) → v < textCount s
+        → ringOf (readOffValences s vs rs ps) (readOffRings s vs rs ps) v ≡ faceRing (textCount s) (textFaces s) (textFace s) v
     unfolding textRing
     ring-read v l = rw (new-valences, new-rings) (in-ring (textCount s) v l (textRing s) short-ring vs rs)
 
@@ -105,14 +104,21 @@ module _ (s vs rs : List ℕ) (ps : List ℤ) where
     -- so the mesh in the tables is the mesh of the faces
     pub mesh-read : rows (textCount s) (readOffValences s vs rs ps) (readOffRings s vs rs ps) ≡ faceMesh (textCount s) (textFaces s) (textFace s)
     unfolding rows faceMesh
-    mesh-read = ap (λ f. record { count = textCount s; ring = f }) (fun-ext (λ v. ⊎-elim (λ l. rw (l .0) (ring-read v (l .1))) (λ l. rw (l .0)) (lt-split v (textCount s))))
+    mesh-read =
+        ap (λ f. record { count = textCount s; ring = f })
+        (fun-ext (λ v. ⊎-elim (λ l. rw (l .0) (ring-read v (l .1))) (λ l. rw (l .0)) (lt-split v (textCount s))))
 
     near : (v : ℕ) → v < textCount s → (axis : ℕ) → axis < 3 → InRange (textPoint s axis v)
     unfolding textBeyond beyond
     near v l axis a = pick axis a
       where
-        e : (textBeyond s v ≡ false) → (ltb 1048576 (natAbs (textPoint s 0 v)) ≡ false) × ((ltb 1048576 (natAbs (textPoint s 1 v)) ≡ false) × (ltb 1048576 (natAbs (textPoint s 2 v)) ≡ false))
-        e q = let p = or-false (beyond (textPoint s 0 v)) (beyond (textPoint s 1 v) || beyond (textPoint s 2 v)) q in let r = or-false (beyond (textPoint s 1 v)) (beyond (textPoint s 2 v)) (p .1) in (p .0, (r .0, r .1))
+        e : textBeyond s v ≡ false
+            → (ltb 1048576 (natAbs (textPoint s 0 v)) ≡ false)
+            × ((ltb 1048576 (natAbs (textPoint s 1 v)) ≡ false) × (ltb 1048576 (natAbs (textPoint s 2 v)) ≡ false))
+        e q =
+            let p = or-false (beyond (textPoint s 0 v)) (beyond (textPoint s 1 v) || beyond (textPoint s 2 v)) q in
+            let r = or-false (beyond (textPoint s 1 v)) (beyond (textPoint s 2 v)) (p .1) in
+            (p .0, (r .0, r .1))
 
         pick : (axis : ℕ) → axis < 3 → natAbs (textPoint s axis v) ≤ 1048576
         pick zero a = ltb-false _ _ (e (passed h .near .below v l) .0)
@@ -132,7 +138,9 @@ module _ (s vs rs : List ℕ) (ps : List ℤ) where
         let ev = length-put vs 0 (gather (λ v. length (f v) ∷ []) n) (omega (arith, t .0 .valences, lv)) in
         let er = length-put rs 0 (gather (λ v. padded (f v)) n) (omega (arith, t .0 .rings, lr)) in
         let ep = length-put ps 0 (gather (λ v. textPoint s 0 v ∷ textPoint s 1 v ∷ textPoint s 2 v ∷ []) n) (omega (arith, t .1, lp)) in
-        (record { valences = omega (arith, ap length new-valences, ev, t .0 .valences); rings = omega (arith, ap length new-rings, er, t .0 .rings) }, omega (arith, ap length new-positions, ep, t .1))
+        let room : Room n (readOffValences s vs rs ps) (readOffRings s vs rs ps) =
+        record { valences = omega (arith, ap length new-valences, ev, t .0 .valences); rings = omega (arith, ap length new-rings, er, t .0 .rings) } in
+        (room, omega (arith, ap length new-positions, ep, t .1))
 
     pub reading-is-checked : checkVerdict (textCount s) (readOffValences s vs rs ps) (readOffRings s vs rs ps) (readOffPositions s vs rs ps) ≡ Accepted
     reading-is-checked =
@@ -146,3 +154,11 @@ module _ (s vs rs : List ℕ) (ps : List ℤ) where
           sound = rw mesh-read (taken-sound (textCount s) (textFaces s) (textFace s) taken);
           near = λ v l axis a. rw (point-read v l axis a) (near v l axis a);
         })
+
+    -- each ring in the tables begins with its smallest neighbour
+    pub rings-begin-with-smallest : (v : ℕ) → v < textCount s → let ring = ringOf (readOffValences s vs rs ps) (readOffRings s vs rs ps) v in
+        (x : ℕ) → x ∈ ring → getD ring 0 0 ≤ x
+    rings-begin-with-smallest v l x m =
+        let e = ring-read v l in
+        subst (λ r. getD r 0 0 ≤ x) (sym e)
+        (begins-with-smallest (textCount s) (textFaces s) (textFace s) taken v l x (subst (λ r. x ∈ r) e m))

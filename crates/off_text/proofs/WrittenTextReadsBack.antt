@@ -1,12 +1,11 @@
--- Reading back what was written (order 4): the text of a sound mesh is in the subset, and gives V, the points and the faces that were written, and so the same cyclic rings, each beginning with its smallest neighbour.
+-- Reading back what was written (order 4): the text of a sound mesh is in the subset, and gives V, the points and the faces that were written,
+-- and so the same cyclic rings.
 -- Assumes nothing.
 use mathlib.Core.Path.{_≡_, refl, sym, ap, ap₂, _∙_, subst}
-use mathlib.Core.Bool.{Bool, true, false, cond, not}
-use mathlib.Core.List.{List, [], _∷_, _++_}
-use mathlib.Core.Logic.{⊎-elim}
-use Prim.Native.Nat.{ℕ, zero, suc, _+_, _*_, _≤_, _<_}
+use mathlib.Core.Bool.{true, false, not}
+use mathlib.Core.List.{List, _++_}
+use Prim.Native.Nat.{ℕ, zero, suc, _+_, _<_}
 use native.Mathlib.Omega.{arith}
-use lib.Dec.{ltb}
 use lib.IntN.{ℤ}
 use lib.ListN.{length, getD, length-append}
 use borrow.Author.Tests.{le-ltb}
@@ -17,17 +16,18 @@ use Rattle.mesh.proofs.First.{none-some}
 use Rattle.rings.specs.Table.{gather}
 use Rattle.rings.specs.Verdict.{refuseIf, refuseAt}
 use Rattle.rings.specs.declared.Verdict.the-variants.{Accepted}
-use Rattle.off_rings.specs.Faces.{Face, badFace, faceRing, least}
+use Rattle.off_rings.specs.Faces.{Face, badFace, faceRing}
 use Rattle.off_rings.specs.Listed.{listed}
 use Rattle.off_rings.proofs.ListedPairs.{listed-count}
 use Rattle.off_rings.proofs.AcceptedFacesAreSound.{Taken}
 use Rattle.off_rings.proofs.WrittenFacesReadBack.{written-taken, times-back, next-back}
-use Rattle.off_rings.proofs.Pairs.{Fine, fine-of}
-use Rattle.off_text.specs.Layout.{isWord, textCount, textFaces, isCounts, isVertex, vertexAt, axisAt, textPoint, isFace, faceLineAt, textFace, textVerdict}
+use Rattle.off_rings.proofs.Pairs.{fine-of}
+use Rattle.off_text.specs.Layout.{isWord, textCount, textFaces, isCounts, isVertex, vertexAt, textPoint, isFace, faceLineAt, textFace, textVerdict}
 use Rattle.off_text.specs.WriteOff.{word, countsLine, vertexLine, faceLine, faceLines, textOf}
-use Rattle.off_text.proofs.Standing.{Stands, stands-whole, stands-front, stands-back, stands-at}
+use Rattle.off_text.proofs.Standing.{Stands, stands-whole, stands-front, stands-back}
 use Rattle.off_text.proofs.NumbersRead.{Held}
-use Rattle.off_text.proofs.LinesRead.{word-read, count-is, faces-is, edges-is, counts-read, vertices-begin, VertexRead, vertex-read, FaceRead, face-read, lines-place, lines-stand, lines-gather}
+use Rattle.off_text.proofs.LinesRead.{word-read, count-is, faces-is, counts-read, vertices-begin, VertexRead, vertex-read, FaceRead, face-read}
+use Rattle.off_text.proofs.LinesRead.{lines-place, lines-stand, lines-gather}
 
 -- a sound mesh with points, all of whose numbers have 32 bits
 pub record Writable (M : Mesh) (point : ℕ → ℕ → ℤ) : Type 0 where
@@ -113,7 +113,9 @@ module _ (M : Mesh) (point : ℕ → ℕ → ℤ) (W : Writable M point) where
 
   faces-stand : Stands s base (gather line (length (listed M)))
   unfolding base line
-  faces-stand = subst (Stands s base) (lines-gather (listed M) none) (stands-back s (4 + length counts) (gather vertex (M .count)) (faceLines (listed M)) points-stand)
+  faces-stand =
+      subst (Stands s base) (lines-gather (listed M) none)
+      (stands-back s (4 + length counts) (gather vertex (M .count)) (faceLines (listed M)) points-stand)
 
   -- the faces as they are listed are good
   listed-taken : Taken (M .count) (length (listed M)) (λ i. getD (listed M) i none)
@@ -162,7 +164,8 @@ module _ (M : Mesh) (point : ℕ → ℕ → ℤ) (W : Writable M point) where
   unfolding textVerdict refuseIf refuseAt
   text-accepted =
       let w : isWord s ≡ true = word-read s (stands-front s 0 word (counts ++ (gather vertex (M .count) ++ faceLines (listed M))) all) in
-      let c : isCounts s ≡ true = counts-read s (M .count) (faces M) (edges M) (W .vertices) (W .few-faces) (W .few-edges) line-two (sym (three-faces M (W .sound))) in
+      let c : isCounts s ≡ true =
+      counts-read s (M .count) (faces M) (edges M) (W .vertices) (W .few-faces) (W .few-edges) line-two (sym (three-faces M (W .sound))) in
       rw (
         w,
         c,

@@ -3,11 +3,10 @@ ghost use mathlib.Core.Path.{_≡_};
 ghost use Prim.Native.Nat.{_≤_, _<_};
 ghost use lib.ListN.{length};
 ghost use Rattle.off_units.specs.Past.{pastNumber, pastUnit};
+use off_numbers::MINUS;
 use off_numbers::Number;
 use off_numbers::byte_on;
 use off_numbers::number_at;
-
-const MINUS: usize = 45;
 
 // How many of the numbers of 32 bits are not below 0.
 const POSITIVES: usize = 2147483648;

@@ -1,9 +1,9 @@
 -- From searches in the two lists to the definitions. Assumes nothing.
 use mathlib.Core.Path.{_≡_, refl, sym, ap, _∙_, subst}
-use mathlib.Core.Bool.{Bool, true, false, cond, _||_}
-use mathlib.Core.List.{List, [], _∷_}
+use mathlib.Core.Bool.{true, false}
+use mathlib.Core.List.{List}
 use mathlib.Core.Logic.{_⊎_, inl, inr, ⊎-elim, _≢_}
-use Prim.Native.Nat.{ℕ, zero, suc, _+_, _≤_, _<_}
+use Prim.Native.Nat.{ℕ, suc, _+_, _≤_, _<_}
 use native.Mathlib.Nat.{eq-or-lt-of-le}
 use native.Mathlib.Numerals.{add-one}
 use native.Mathlib.Omega.{arith}
@@ -12,10 +12,9 @@ use lib.ListN.{length, getD}
 use borrow.Author.Tests.{eq-eqb, ne-eqb}
 use Rattle.mesh.specs.Search.{first}
 use Rattle.mesh.specs.Ring.{_∈_, has, place}
-use Rattle.mesh.proofs.Lists.{lt-split}
 use Rattle.mesh.proofs.Rings.{place-lt, getD-place, getD-in}
 use Rattle.mesh.proofs.Places.{in-has, has-in, in-place}
-use Rattle.mesh.proofs.First.{Clear, clear-none, clear-more, first-is, first-end, true-not-false, by-cases}
+use Rattle.mesh.proofs.First.{Clear, clear-none, clear-more, first-is, first-end, by-cases}
 use Rattle.off_rings.specs.Faces.{steps}
 use Rattle.off_rings.specs.Fans.{follower, smallest, fanBack, fanCloses}
 use Rattle.off_rings.proofs.Trails.{steps-suc, steps-none}
@@ -43,14 +42,14 @@ module _ {n : ℕ} {l : List ℕ} {i best : ℕ} (b : Best n l i best) (h : i < 
   last : (k : ℕ) → k < i + 1 → (k ≡ i) ⊎ (k < i)
   last k g = eq-or-lt-of-le (omega arith)
 
-  pub best-new : getD l i 0 < best → Best n l (i + 1) (getD l i 0)
+  best-new : getD l i 0 < best → Best n l (i + 1) (getD l i 0)
   best-new g = record {
     most = omega (arith, b .most);
     least = λ k q. ⊎-elim (λ e. subst (λ j. getD l i 0 ≤ getD l j 0) (sym e) (omega arith)) (λ e. omega (arith, b .least k e)) (last k q);
     found = inr (getD-in l i 0 h);
   }
 
-  pub best-same : best ≤ getD l i 0 → Best n l (i + 1) best
+  best-same : best ≤ getD l i 0 → Best n l (i + 1) best
   best-same g = record {
     most = b .most;
     least = λ k q. ⊎-elim (λ e. subst (λ j. best ≤ getD l j 0) (sym e) g) (λ e. b .least k e) (last k q);
@@ -88,7 +87,11 @@ module _ (n : ℕ) (from to : List ℕ) where
     pub clear : Clear (fanBack n from to) k
 
   pub walk-none : (start x : ℕ) → start ≡ smallest n from to → x ≡ follower n from to start → Walked start x 0
-  walk-none start x e q = record { begins = e; here = q ∙ sym (steps-suc (follower n from to) start 0 ∙ ap (follower n from to) (steps-none (follower n from to) start)); clear = clear-none }
+  walk-none start x e q = record {
+    begins = e;
+    here = q ∙ sym (steps-suc (follower n from to) start 0 ∙ ap (follower n from to) (steps-none (follower n from to) start));
+    clear = clear-none;
+  }
 
   at-back : (start x k : ℕ) → Walked start x k → (x ≡ start → fanBack n from to k ≡ true) × (x ≢ start → fanBack n from to k ≡ false)
   at-back start x k w =

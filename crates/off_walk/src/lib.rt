@@ -1,6 +1,5 @@
 // The ring of one vertex from two lists, what comes before it and behind it in its faces: where the ring begins, what follows, and whether it closes.
 ghost use mathlib.Core.Path.{_≡_};
-ghost use Prim.Native.Nat.{_≤_, _<_};
 ghost use lib.ListN.{length};
 ghost use Rattle.off_rings.specs.Fans.{follower, smallest, fanCloses};
 use rings::ring::seek;

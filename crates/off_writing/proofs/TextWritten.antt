@@ -1,10 +1,8 @@
 -- The text of a mesh, part by part, and what the call makes of it. Assumes nothing.
-use mathlib.Core.Path.{_≡_, refl, sym, ap, _∙_, subst}
-use mathlib.Core.Bool.{false}
+use mathlib.Core.Path.{_≡_, refl, sym, ap, _∙_}
 use mathlib.Core.List.{List, _++_}
 use Prim.Native.Nat.{ℕ, _+_, _≤_, _<_}
 use native.Mathlib.Omega.{arith}
-use lib.Dec.{ltb}
 use lib.IntN.{ℤ}
 use lib.ListN.{length, length-append}
 use borrow.Author.Tests.{le-ltb, lt-ltb}
@@ -44,13 +42,15 @@ module _ (n : ℕ) (vs rs : List ℕ) (ps : List ℤ) where
     parts = rw (is-e, is-f)
 
     -- the parts fit where the whole does
-    pub parts-fit : {room : ℕ} → length (textOf (rows n vs rs) (coordinateAt ps)) ≤ room → 4 + (length (countsLine n f e) + (length vertexLines + length cornerLines)) ≤ room
+    pub parts-fit : {room : ℕ} → length (textOf (rows n vs rs) (coordinateAt ps)) ≤ room
+        → 4 + (length (countsLine n f e) + (length vertexLines + length cornerLines)) ≤ room
     parts-fit h =
         let l = length-append (countsLine n f e) (vertexLines ++ cornerLines) in
         let m = length-append vertexLines cornerLines in
         omega (arith, ap length parts)
 
-    pub all-written : {l m₁ m₂ m₃ m₄ : List ℕ} {k₂ k₃ k₄ : ℕ} → Put l 0 word m₁ → Written m₁ 4 (countsLine n f e) m₂ k₂
+    pub all-written : {l m₁ m₂ m₃ m₄ : List ℕ} {k₂ k₃ k₄ : ℕ} → Put l 0 word m₁
+        → Written m₁ 4 (countsLine n f e) m₂ k₂
         → Written m₂ k₂ vertexLines m₃ k₃
         → Written m₃ k₃ cornerLines m₄ k₄
         → Put l 0 (textOf (rows n vs rs) (coordinateAt ps)) m₄
@@ -95,7 +95,8 @@ module _ (n : ℕ) (vs rs : List ℕ) (ps : List ℤ) where
 
 module _ (n : ℕ) (vs rs : List ℕ) (ps : List ℤ) (room : List ℕ) where
   -- the check refuses
-  pub check-refuses : (r : Refusal) → checkVerdict n vs rs ps ≡ Refused r → (amount.Refused r ≡ writeOffAnswer n vs rs ps room) × (room ≡ writeOffRoom n vs rs ps room)
+  pub check-refuses : (r : Refusal) → checkVerdict n vs rs ps ≡ Refused r
+      → (amount.Refused r ≡ writeOffAnswer n vs rs ps room) × (room ≡ writeOffRoom n vs rs ps room)
   unfolding writeOffAnswer writeOffRoom writeOffVerdict andThen after withAmount
   check-refuses r c = (rw c, rw c)
 
@@ -108,11 +109,13 @@ module _ (n : ℕ) (vs rs : List ℕ) (ps : List ℤ) (room : List ℕ) where
     unfolding writeOffVerdict andThen refuseIf
     enough h = rw (c, le-ltb (length room) (length (textOf (rows n vs rs) (coordinateAt ps))) h)
 
-    pub room-refuses : length room < length (textOf (rows n vs rs) (coordinateAt ps)) → (amount.Refused NoRoom ≡ writeOffAnswer n vs rs ps room) × (room ≡ writeOffRoom n vs rs ps room)
+    pub room-refuses : length room < length (textOf (rows n vs rs) (coordinateAt ps))
+        → (amount.Refused NoRoom ≡ writeOffAnswer n vs rs ps room) × (room ≡ writeOffRoom n vs rs ps room)
     unfolding writeOffAnswer writeOffRoom after withAmount
     room-refuses h = (rw (no-room h), rw (no-room h))
 
-    pub accepted : {size : ℕ} {room′ : List ℕ} → size ≡ length (textOf (rows n vs rs) (coordinateAt ps)) → Put room 0 (textOf (rows n vs rs) (coordinateAt ps)) room′
+    pub accepted : {size : ℕ} {room′ : List ℕ} → size ≡ length (textOf (rows n vs rs) (coordinateAt ps))
+        → Put room 0 (textOf (rows n vs rs) (coordinateAt ps)) room′
         → (amount.Of size ≡ writeOffAnswer n vs rs ps room) × (room′ ≡ writeOffRoom n vs rs ps room)
     unfolding writeOffAnswer writeOffRoom after withAmount
     accepted e p = let f = p .fits in let v = enough (omega arith) in (rw v (ap amount.Of e), rw v (p .is))

@@ -31,7 +31,8 @@ fn put_text(
     requires { ⌜ e ≡ edges (rows count (now valences) (now rings)) ⌝ }
     requires { ⌜ f ≡ faces (rows count (now valences) (now rings)) ⌝ }
     requires { ⌜ length (textOf (rows count (now valences) (now rings)) (coordinateAt (now positions))) ≤ length (now text) ⌝ }
-    ensures { λ _. ⌜ Put (now (text .entry)) 0 (textOf (rows count (now (valences .entry)) (now (rings .entry))) (coordinateAt (now (positions .entry)))) (now (text .exit)) ⌝ }
+    ensures { λ _. ⌜ Put (now (text .entry)) 0
+        (textOf (rows count (now (valences .entry)) (now (rings .entry))) (coordinateAt (now (positions .entry)))) (now (text .exit)) ⌝ }
 {
     put_word(text);
     let vertices = put_counts(text, 4, count, f, e);

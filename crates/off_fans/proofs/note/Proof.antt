@@ -1,6 +1,5 @@
 -- `note` meets its contract. Assumes nothing.
 use borrow.Author.Needs.{needs}
-use native.Mathlib.Omega.{arith}
 use Rattle.off_fans.proofs.Noting.{note-full, note-more}
 use Rattle.off_fans.proofs.note.Statement.{statement}
 use Rattle.off_fans.proofs.note.Tie as tie

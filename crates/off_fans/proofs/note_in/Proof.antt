@@ -19,11 +19,11 @@ cast-note-2 c = search needs
 
 note-requires : tie.Need-note-requires
 note-requires c κs =
-    let st = c .before .before .before .before .before .before .before .before in
-    let r = st .pre .0 in
+    let p = c .before .before .before .before .before .before .before .before .pre in
+    let r = p .0 in
     let l = c .before .before .before .if2 .left in (
       omega (arith, r .counts-long, l),
-      (st .pre .1 .0 .low _ (omega (arith, l)), (row-room _ _ _ _ (omega (arith, l)) (r .froms-long), row-room _ _ _ _ (omega (arith, l)) (r .tos-long))),
+      (p .1 .0 .low _ (omega (arith, l)), (row-room _ _ _ _ (omega (arith, l)) (r .froms-long), row-room _ _ _ _ (omega (arith, l)) (r .tos-long))),
     )
 
 same-length : tie.Need-same-length
@@ -38,8 +38,10 @@ same-length-3 c = search needs
 returns-3 : tie.Need-returns-3
 returns-3 c =
     let e = c .before .before .before .before .before .before in
-    let st = e .before .before .before .before .before .before .before .before .before in
-    note-row _ _ _ _ _ _ _ _ _ (e .before .before .before .before .before .if1 .left) (omega (arith, e .before .before .before .before .if2 .left)) (st .pre .0 .counts-long) (e .note .ensures)
+    let s = e .before .before .before .before in
+    note-row _ _ _ _ _ _ _ _ _ (s .before .if1 .left) (omega (arith, s .if2 .left))
+    (s .before .before .before .before .before .pre .0 .counts-long)
+    (e .note .ensures)
 
 pub note-in-spec : {M : Type 1} → statement M
 note-in-spec =

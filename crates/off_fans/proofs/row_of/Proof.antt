@@ -29,7 +29,8 @@ part-result-end c = search needs
 returns : tie.Need-returns
 returns c =
     let a = c .before .args in
-    (part-is (a .table .now) (a .j * a .width) (a .n), ap length (part-is (a .table .now) (a .j * a .width) (a .n)) ∙ part-length (a .table .now) (a .j * a .width) (a .n) (omega arith))
+    let e = part-is (a .table .now) (a .j * a .width) (a .n) in
+    (e, ap length e ∙ part-length (a .table .now) (a .j * a .width) (a .n) (omega arith))
 
 pub row-of-spec : {M : Type 1} → statement M
 row-of-spec =

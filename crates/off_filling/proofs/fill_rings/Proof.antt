@@ -18,6 +18,13 @@ abbrev μ-loop : tie.MeasureT-loop
 abbrev start : tie.In-loop Inv-loop μ-loop → tie.Start Inv-loop μ-loop
 start c = c .before .before .before .before .before .before .before .before
 
+-- the block, seen from the end of the turn, and where the turn began
+abbrev block : tie.After-slice-known10 Inv-loop μ-loop → tie.After-fill-block Inv-loop μ-loop
+block c = c .before .before .before .before .before .before .before .before .before .before
+
+abbrev turn : tie.After-fill-block Inv-loop μ-loop → tie.In-loop Inv-loop μ-loop
+turn c = c .before .before .before .before .before .before
+
 loop-holds : tie.Need-loop-holds Inv-loop μ-loop
 loop-holds c = passed-none
 
@@ -29,12 +36,12 @@ fill-block-requires c κs =
     (p .0, (tables-same (i .same) (p .1 .0), (passed-fillable i (p .1 .1), (i .wide, t .loop-test .taken))))
 
 loop-less : tie.Need-loop-less Inv-loop μ-loop
-loop-less c = c .before .before .before .before .before .before .before .before .before .before .fill-block .ensures .0 .nearer
+loop-less c = block c .fill-block .ensures .0 .nearer
 
 loop-again : tie.Need-loop-again Inv-loop μ-loop
 loop-again c =
-    let t = c .before .before .before .before .before .before .before .before .before .before .before .before .before .before .before .before in
-    let e = c .before .before .before .before .before .before .before .before .before .before .fill-block .ensures in
+    let t = turn (block c) in
+    let e = block c .fill-block .ensures in
     passed-more (t .before .loop .inv) (start t .pre .1 .1) (e .0) (e .1)
 
 same-length : tie.Need-same-length Inv-loop μ-loop

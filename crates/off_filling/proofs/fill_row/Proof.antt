@@ -14,6 +14,14 @@ Inv-loop from to count rings₀ v n a x₀ k₀ rings x k = (k ≤ n) × Walked 
 abbrev μ-loop : tie.MeasureT-loop
 μ-loop from to count rings₀ v n a x₀ k₀ rings x k = n - k
 
+-- what the function was called with, seen from the loop
+abbrev start : tie.At-loop Inv-loop μ-loop → tie.Start Inv-loop μ-loop
+start c = c .before .before .before .before .before
+
+-- what follows is an entry of two bytes
+small : (c : tie.At-loop Inv-loop μ-loop) (i : ℕ) → getD (start c .args .to .now) i 0 < 65536
+small c i = omega (arith, c .before .before .before .shared-slice-known2 .given i)
+
 mul-a : tie.Need-mul-a Inv-loop μ-loop
 mul-a c = search needs
 
@@ -46,13 +54,9 @@ loop-less c = search needs
 
 loop-again : tie.Need-loop-again Inv-loop μ-loop
 loop-again c =
-    let l = c .before .before .loop in
-    let p = c .before .before .before .before .before .before .before .pre in
+    let l = c .before .before in
     let h = c .before .loop-test .taken in
-    (omega arith, walked-more _ _ _ (p .1 .1 .0) (λ i. small i) (omega arith) (l .inv .1) (c .follow .ensures))
-  where
-    small : (i : ℕ) → getD (c .before .before .before .before .before .before .before .args .to .now) i 0 < 65536
-    small i = omega (arith, c .before .before .before .before .before .shared-slice-known2 .given i)
+    (omega arith, walked-more _ _ _ (start l .pre .1 .1 .0) (small l) (omega arith) (l .loop .inv .1) (c .follow .ensures))
 
 write-unused-requires : tie.Need-write-unused-requires Inv-loop μ-loop
 write-unused-requires c κs = search needs
@@ -62,9 +66,10 @@ same-length c = c .before .before .write-unused .kept .0 ∙ c .before .before .
 
 returns : tie.Need-returns Inv-loop μ-loop
 returns c =
-    let p = c .before .before .before .before .before .before .before .before .before .before .pre in
-    let l = c .before .before .before .before .before .loop in
-    walked-all _ _ _ (p .1 .0) (p .1 .1 .1) (l .inv .0) (c .before .before .before .before .loop-test .left) (l .inv .1) (c .before .before .write-unused .ensures)
+    let e = c .before .before .before .before in
+    let l = e .before in
+    let p = start l .pre in
+    walked-all _ _ _ (p .1 .0) (p .1 .1 .1) (l .loop .inv .0) (e .loop-test .left) (l .loop .inv .1) (c .before .before .write-unused .ensures)
 
 pub fill-row-spec : {M : Type 1} → statement M
 fill-row-spec =

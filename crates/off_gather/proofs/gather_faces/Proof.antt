@@ -1,9 +1,8 @@
 -- `gather_faces` meets its contract: so far the rows keep what the faces passed give. Assumes nothing.
 use Prim.Native.Nat.{_≤_, _-_}
-use mathlib.Core.Path.{_≡_, refl, sym, _∙_, subst}
+use mathlib.Core.Path.{_≡_, _∙_}
 use borrow.Author.Needs.{needs}
 use native.Mathlib.Omega.{arith}
-use lib.ListN.{length}
 use Rattle.off_text.specs.Layout.{faceLineAt}
 use Rattle.off_fans.specs.Rows.{Room}
 use Rattle.off_gather.specs.Gathering.{SameRoom, Gathered}
@@ -21,20 +20,31 @@ Inv-loop text from faces first rows width counts₀ froms₀ tos₀ at₀ i₀ c
 abbrev μ-loop : tie.MeasureT-loop
 μ-loop text from faces first rows width counts₀ froms₀ tos₀ at₀ i₀ counts froms tos at i = faces - i
 
+-- the way back to earlier places
+abbrev from-clear : tie.After-clear Inv-loop μ-loop → tie.Start Inv-loop μ-loop
+from-clear c = c .before .before .before .before .before .before
+
+abbrev from-loop : tie.At-loop Inv-loop μ-loop → tie.After-clear Inv-loop μ-loop
+from-loop c = c .before .before .before
+
+abbrev from-face : tie.After-gather-face Inv-loop μ-loop → tie.In-loop Inv-loop μ-loop
+from-face c = c .before .before .before .before
+
 clear-requires : tie.Need-clear-requires Inv-loop μ-loop
 clear-requires c κs = let p = c .before .before .before .before .before .pre in omega (arith, p .1 .counts-long)
 
 loop-holds : tie.Need-loop-holds Inv-loop μ-loop
 loop-holds c =
-    let p = c .before .before .before .before .before .before .before .before .pre in
-    let k = c .before .before .clear .ensures in
-    (omega arith, (p .0 .begins, (room-same (same-cleared k) (p .1), (same-none, gathered-none k))))
+    let k = c .before .before in
+    let e = k .clear .ensures in
+    let p = from-clear k .pre in
+    (omega arith, (p .0 .begins, (room-same (same-cleared e) (p .1), (same-none, gathered-none e))))
 
 gather-face-requires : tie.Need-gather-face-requires Inv-loop μ-loop
 gather-face-requires c κs =
-    let p = c .before .before .before .before .before .before .before .before .before .before .before .before .before .pre in
-    let l = c .before .before .before .before .loop in
-    (face-line (p .0) (c .before .before .before .loop-test .taken) (l .inv .1 .0), (l .inv .1 .1 .0, l .inv .1 .1 .1 .1))
+    let t = c .before .before .before in
+    let i = t .before .loop .inv in
+    (face-line (from-clear (from-loop (t .before)) .pre .0) (t .loop-test .taken) (i .1 .0), (i .1 .1 .0, i .1 .1 .1 .1))
 
 add-i : tie.Need-add-i Inv-loop μ-loop
 add-i c = search needs
@@ -44,14 +54,14 @@ loop-less c = search needs
 
 loop-again : tie.Need-loop-again Inv-loop μ-loop
 loop-again c =
-    let l = c .before .before .before .before .before .before .before .before .before .before .before .loop in
-    let e = c .before .before .before .before .before .before .gather-face .ensures in (
-      omega (arith, c .before .before .before .before .before .before .before .before .before .before .loop-test .taken),
-      (e .0, (room-same (e .1 .0) (l .inv .1 .1 .0), (same-more (l .inv .1 .1 .1 .0) (e .1 .0), e .1 .1))),
-    )
+    let f = c .before .before .before .before .before .before in
+    let e = f .gather-face .ensures in
+    let t = from-face f in
+    let i = t .before .loop .inv in
+    (omega (arith, t .loop-test .taken), (e .0, (room-same (e .1 .0) (i .1 .1 .0), (same-more (i .1 .1 .1 .0) (e .1 .0), e .1 .1))))
 
 same-length : tie.Need-same-length Inv-loop μ-loop
-same-length c = c .before .loop .inv .1 .1 .1 .0 .counts-same ∙ c .before .before .before .before .clear .ensures .same
+same-length c = c .before .loop .inv .1 .1 .1 .0 .counts-same ∙ from-loop (c .before) .clear .ensures .same
 
 same-length-2 : tie.Need-same-length-2 Inv-loop μ-loop
 same-length-2 c = c .before .loop .inv .1 .1 .1 .0 .froms-same
@@ -61,8 +71,9 @@ same-length-3 c = c .before .loop .inv .1 .1 .1 .0 .tos-same
 
 returns : tie.Need-returns Inv-loop μ-loop
 returns c =
-    let l = c .before .loop in
-    (gathered-end (l .inv .0) (c .loop-test .left) (l .inv .1 .1 .1 .1), same-more (same-cleared (c .before .before .before .before .clear .ensures)) (l .inv .1 .1 .1 .0))
+    let i = c .before .loop .inv in
+    let e = from-loop (c .before) .clear .ensures in
+    (gathered-end (i .0) (c .loop-test .left) (i .1 .1 .1 .1), same-more (same-cleared e) (i .1 .1 .1 .0))
 
 pub gather-faces-spec : {M : Type 1} → statement M
 gather-faces-spec =

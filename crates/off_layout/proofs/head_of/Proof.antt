@@ -7,20 +7,29 @@ use Rattle.off_layout.proofs.Lines.{head-first, head-second, head-third
 use Rattle.off_layout.proofs.head_of.Statement.{statement}
 use Rattle.off_layout.proofs.head_of.Tie as tie
 
+-- the way back to earlier places
+abbrev from-count : tie.After-known-told → tie.Start
+from-count c = c .before .before .before .before .before
+
+abbrev from-faces : tie.After-known-told2 → tie.After-known-told
+from-faces c = c .before .before .before .before
+
+abbrev from-edges : tie.After-known-told3 → tie.After-known-told2
+from-edges c = c .before .before .before .before
+
 -- the three numbers, where they are found
 found : (c : tie.After-known-told)
-    → NumberFound (c .before .before .before .before .before .args .text .now)
-    4 4294967296 32 (c .before .count .given .0 .0) (c .before .count .given .0 .1 .0)
+    → NumberFound (from-count c .args .text .now) 4 4294967296 32 (c .before .count .given .0 .0) (c .before .count .given .0 .1 .0)
 found c = number-found _ _ _ _ _ _ (sym (c .before .count .given .1) ∙ c .before .before .before .number-at .ensures) (omega arith)
 
 found-2 : (c : tie.After-known-told2)
-    → NumberFound (c .before .before .before .before .before .before .before .before .before .args .text .now)
-    (c .before .before .before .before .before .count .given .0 .1 .0) 4294967296 32 (c .before .faces .given .0 .0) (c .before .faces .given .0 .1 .0)
+    → NumberFound (from-count (from-faces c) .args .text .now) (from-faces c .before .count .given .0 .1 .0)
+    4294967296 32 (c .before .faces .given .0 .0) (c .before .faces .given .0 .1 .0)
 found-2 c = number-found _ _ _ _ _ _ (sym (c .before .faces .given .1) ∙ c .before .before .before .number-at2 .ensures) (omega arith)
 
 found-3 : (c : tie.After-known-told3)
-    → NumberFound (c .before .before .before .before .before .before .before .before .before .before .before .before .before .args .text .now)
-    (c .before .before .before .before .before .faces .given .0 .1 .0) 4294967296 10 (c .before .edges .given .0 .0) (c .before .edges .given .0 .1 .0)
+    → NumberFound (from-count (from-faces (from-edges c)) .args .text .now) (from-edges c .before .faces .given .0 .1 .0)
+    4294967296 10 (c .before .edges .given .0 .0) (c .before .edges .given .0 .1 .0)
 found-3 c = number-found _ _ _ _ _ _ (sym (c .before .edges .given .1) ∙ c .before .before .before .number-at3 .ensures) (omega arith)
 
 number-at-requires : tie.Need-number-at-requires
@@ -61,24 +70,24 @@ enum-told-3 c = search needs
 returns-3 : tie.Need-returns-3
 returns-3 c =
     let d = c .before .before .before in
-    head-third _ _ _ (found (d .before .before .before .before)) _ _ (found-2 d)
+    head-third _ _ _ (found (from-faces d)) _ _ (found-2 d)
     (number-missing _ _ _ _ (sym (c .enum-told3 .given .1) ∙ c .before .before .number-at3 .ensures))
 
 mul-if1 : tie.Need-mul-if1
 mul-if1 c = omega (arith, found-3 c .small)
 
 mul-if1-2 : tie.Need-mul-if1-2
-mul-if1-2 c = omega (arith, found-2 (c .before .before .before .before) .small)
+mul-if1-2 c = omega (arith, found-2 (from-edges c) .small)
 
 returns-4 : tie.Need-returns-4
 returns-4 c =
-    let d = c .before .before .before .before .before in
-    head-edges _ _ _ (found (d .before .before .before .before)) _ _ (found-2 d) _ _ (found-3 (c .before)) (c .if1 .taken)
+    let d = from-edges (c .before) in
+    head-edges _ _ _ (found (from-faces d)) _ _ (found-2 d) _ _ (found-3 (c .before)) (c .if1 .taken)
 
 returns-5 : tie.Need-returns-5
 returns-5 c =
-    let d = c .before .before .before .before .before in
-    head-is _ _ _ (found (d .before .before .before .before)) _ _ (found-2 d) _ _ (found-3 (c .before)) (c .if1 .left)
+    let d = from-edges (c .before) in
+    head-is _ _ _ (found (from-faces d)) _ _ (found-2 d) _ _ (found-3 (c .before)) (c .if1 .left)
 
 pub head-of-spec : {M : Type 1} → statement M
 head-of-spec =

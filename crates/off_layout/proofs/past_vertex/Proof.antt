@@ -7,15 +7,20 @@ use Rattle.off_layout.proofs.Lines.{vertex-first, vertex-second, vertex
 use Rattle.off_layout.proofs.past_vertex.Statement.{statement}
 use Rattle.off_layout.proofs.past_vertex.Tie as tie
 
+-- the way back to earlier places
+abbrev from-y : tie.After-known-told → tie.Start
+from-y c = c .before .before .before .before .before
+
+abbrev from-z : tie.After-known-told2 → tie.After-known-told
+from-z c = c .before .before .before .before
+
 -- x and y, where they are found
 found : (c : tie.After-known-told)
-    → UnitFound (c .before .before .before .before .before .args .text .now)
-    (c .before .before .before .before .before .args .at) 32 (c .before .y .given .0 .0)
+    → UnitFound (from-y c .args .text .now) (from-y c .args .at) 32 (c .before .y .given .0 .0)
 found c = unit-found _ _ _ _ (sym (c .before .y .given .1) ∙ c .before .before .before .past-unit .ensures) (omega arith)
 
 found-2 : (c : tie.After-known-told2)
-    → UnitFound (c .before .before .before .before .before .before .before .before .before .args .text .now)
-    (c .before .before .before .before .before .y .given .0 .0) 32 (c .before .z .given .0 .0)
+    → UnitFound (from-y (from-z c) .args .text .now) (from-z c .before .y .given .0 .0) 32 (c .before .z .given .0 .0)
 found-2 c = unit-found _ _ _ _ (sym (c .before .z .given .1) ∙ c .before .before .before .past-unit2 .ensures) (omega arith)
 
 past-unit-requires : tie.Need-past-unit-requires
@@ -47,7 +52,7 @@ past-unit-requires-3 : tie.Need-past-unit-requires-3
 past-unit-requires-3 c κs = (found-2 c .within, omega arith)
 
 returns-3 : tie.Need-returns-3
-returns-3 c = vertex-third _ _ _ (found (c .before .before .before .before .before)) _ (found-2 (c .before)) _ (c .past-unit3 .ensures)
+returns-3 c = vertex-third _ _ _ (found (from-z (c .before))) _ (found-2 (c .before)) _ (c .past-unit3 .ensures)
 
 pub past-vertex-spec : {M : Type 1} → statement M
 past-vertex-spec =

@@ -24,14 +24,19 @@ is-digit-requires c κs = search needs
 
 returns : tie.Need-returns Inv-loop μ-loop
 returns c =
-    let l = c .before .before .before .before .loop in
-    scan-stop _ _ _ _ _ _ (c .before .before .byte-on .ensures .0) (c .before .is-digit .ensures) (l .inv .1) (c .before .before .before .loop-test .taken) (c .if1 .taken)
+    let t = c .before .before .before in
+    scan-stop _ _ _ _ _ _ (c .before .before .byte-on .ensures .0) (c .before .is-digit .ensures)
+    (t .before .loop .inv .1)
+    (t .loop-test .taken)
+    (c .if1 .taken)
 
 mul-value : tie.Need-mul-value Inv-loop μ-loop
 mul-value c = let l = c .before .before .before .before .loop in omega (arith, scan-bound (l .inv .1) (l .inv .0))
 
 sub-value : tie.Need-sub-value Inv-loop μ-loop
-sub-value c = digit-range _ _ _ (c .before .before .before .before .loop .value) _ _ (c .before .before .byte-on .ensures .0) (c .before .is-digit .ensures) (not-false _ (c .if1 .left)) .0
+sub-value c =
+    let l = c .before .before .before .before .loop in
+    digit-range _ _ _ (l .value) _ _ (c .before .before .byte-on .ensures .0) (c .before .is-digit .ensures) (not-false _ (c .if1 .left)) .0
 
 add-value : tie.Need-add-value Inv-loop μ-loop
 add-value c =
@@ -46,8 +51,10 @@ loop-less c = search needs
 
 loop-again : tie.Need-loop-again Inv-loop μ-loop
 loop-again c =
-    let l = c .before .before .before .before .loop in
-    (omega (arith, c .before .before .before .loop-test .taken), scan-more _ _ _ _ _ _ (c .before .before .byte-on .ensures .0) (c .before .is-digit .ensures) (l .inv .1) (c .if1 .left))
+    let t = c .before .before .before in (
+      omega (arith, t .loop-test .taken),
+      scan-more _ _ _ _ _ _ (c .before .before .byte-on .ensures .0) (c .before .is-digit .ensures) (t .before .loop .inv .1) (c .if1 .left),
+    )
 
 returns-2 : tie.Need-returns-2 Inv-loop μ-loop
 returns-2 c = scan-end (c .before .loop .inv .1) (c .before .loop .inv .0) (c .loop-test .left)

@@ -3,10 +3,6 @@ use Rattle.rings.proofs.Checks.{beyond-read}
 use Rattle.off_points.proofs.Pointing.{far-x, far-y, far-z}
 use Rattle.off_points.proofs.far_at.Statement.{statement}
 use Rattle.off_points.proofs.far_at.Tie as tie
-use Rattle.off_points.proofs.far_at.Reads as reads
-use Rattle.off_points.proofs.far_at.Lts as lts
-use Rattle.mesh_check.proofs.positions.is_beyond.Reads as is-beyond-reads
-use Rattle.off_points.proofs.point_at.Reads as point-at-reads
 
 point-at-requires : tie.Need-point-at-requires
 point-at-requires c κs = c .before .pre

@@ -7,9 +7,6 @@ use mir.ValLaws.{toZ-ofZ}
 use Rattle.off_points.proofs.Pointing.{row-written}
 use Rattle.off_points.proofs.fill_point.Statement.{statement}
 use Rattle.off_points.proofs.fill_point.Tie as tie
-use Rattle.off_points.proofs.fill_point.Reads as reads
-use Rattle.off_points.proofs.fill_point.Lts as lts
-use Rattle.off_points.proofs.point_at.Reads as point-at-reads
 
 point-at-requires : tie.Need-point-at-requires
 point-at-requires c κs = search needs

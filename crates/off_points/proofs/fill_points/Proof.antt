@@ -5,9 +5,6 @@ use native.Mathlib.Omega.{arith}
 use Rattle.off_points.proofs.Pointing.{line-of, FilledTo, filled-none, filled-more, filled-all}
 use Rattle.off_points.proofs.fill_points.Statement.{statement}
 use Rattle.off_points.proofs.fill_points.Tie as tie
-use Rattle.off_points.proofs.fill_points.Reads as reads
-use Rattle.off_points.proofs.fill_points.Lts as lts
-use Rattle.off_points.proofs.fill_point.Reads as fill-point-reads
 
 abbrev Inv-loop : tie.InvT-loop
 Inv-loop text from positions₀ count at₀ v₀ positions at v = (v ≤ count) × FilledTo text positions₀ positions at v

@@ -7,9 +7,6 @@ use Rattle.mesh.proofs.First.{first-is, first-end}
 use Rattle.off_points.proofs.Pointing.{line-of, Searched, searched-none, searched-more}
 use Rattle.off_points.proofs.first_far.Statement.{statement}
 use Rattle.off_points.proofs.first_far.Tie as tie
-use Rattle.off_points.proofs.first_far.Reads as reads
-use Rattle.off_points.proofs.first_far.Lts as lts
-use Rattle.off_points.proofs.far_at.Reads as far-at-reads
 
 abbrev Inv-loop : tie.InvT-loop
 Inv-loop text from count at₀ v₀ at v = (v ≤ count) × Searched text at v

@@ -5,9 +5,6 @@ use mir.ValLaws.{toZ-ofZ}
 use Rattle.off_points.proofs.Pointing.{first-there, second-there, third-there, point-read}
 use Rattle.off_points.proofs.point_at.Statement.{statement}
 use Rattle.off_points.proofs.point_at.Tie as tie
-use Rattle.off_points.proofs.point_at.Reads as reads
-use Rattle.off_points.proofs.point_at.Lts as lts
-use Rattle.off_known.proofs.read_unit.Reads as read-unit-reads
 
 read-unit-requires : tie.Need-read-unit-requires
 read-unit-requires c κs = first-there (c .before .pre)

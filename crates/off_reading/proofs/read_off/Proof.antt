@@ -1,10 +1,18 @@
 -- `read_off` meets its contract. Assumes nothing.
-use mathlib.Core.Path.{_≡_, sym, _∙_}
+use mathlib.Core.Path.{sym, _∙_}
 use borrow.Author.Needs.{needs}
 use Rattle.rings.proofs.Checks.{told-most}
-use Rattle.off_reading.proofs.TextRead.{Whole, whole-told, refusal-told, text-refused, count-refused, short-refused, lines-known, lines-refused, lines-accepted}
+use Rattle.off_reading.proofs.TextRead.{Whole, whole-told, refusal-told, text-refused, count-refused, short-refused}
+use Rattle.off_reading.proofs.TextRead.{lines-known, lines-refused, lines-accepted}
 use Rattle.off_reading.proofs.read_off.Statement.{statement}
 use Rattle.off_reading.proofs.read_off.Tie as tie
+
+-- the way back to earlier places
+abbrev from-short : tie.After-is-short → tie.Else1
+from-short c = c .before .before .before .before
+
+abbrev from-lines : tie.After-read-lines → tie.Else2
+from-lines c = c .before .before .before .before
 
 -- what the judge of the text told
 whole : (c : tie.After-count) → let v = c .count .given .0 in
@@ -40,11 +48,16 @@ same-length-3 c = search needs
 
 returns-2 : tie.Need-returns-2
 returns-2 c =
-    short-refused _ _ _ _ (whole (c .before .before .before .before .before .before .before .before)) _ (c .before .before .before .before .before .before .is-bad-count .ensures) (c .before .before .before .before .before .if1 .left) _ (c .before .is-short .ensures) (c .if2 .taken)
+    let e = from-short (c .before) in
+    short-refused _ _ _ _ (whole (e .before .before .before)) _ (e .before .is-bad-count .ensures) (e .if1 .left) _
+    (c .before .is-short .ensures) (c .if2 .taken)
 
 read-lines-requires : tie.Need-read-lines-requires
 read-lines-requires c κs =
-    lines-known _ _ _ _ (whole (c .before .before .before .before .before .before .before .before .before .before .before)) _ (c .before .before .before .before .before .before .before .before .before .is-bad-count .ensures) (c .before .before .before .before .before .before .before .before .if1 .left) _ (c .before .before .before .before .is-short .ensures) (c .before .before .before .if2 .left)
+    let l = c .before .before .before in
+    let e = from-short (l .before) in
+    lines-known _ _ _ _ (whole (e .before .before .before)) _ (e .before .is-bad-count .ensures) (e .if1 .left) _
+    (l .before .is-short .ensures) (l .if2 .left)
 
 enum-known-r-2 : tie.Need-enum-known-r-2
 enum-known-r-2 c = search needs
@@ -66,9 +79,13 @@ same-length-6 c = search needs
 
 returns-4 : tie.Need-returns-4
 returns-4 c =
-    let e = c .before .before .before .before .before .before .before .before .read-lines .ensures in
-    lines-refused _ _ _ _ (whole (c .before .before .before .before .before .before .before .before .before .before .before .before .before .before .before .before .before .before .before .before)) _ (c .before .before .before .before .before .before .before .before .before .before .before .before .before .before .before .before .before .before .is-bad-count .ensures) (c .before .before .before .before .before .before .before .before .before .before .before .before .before .before .before .before .before .if1 .left) _ (c .before .before .before .before .before .before .before .before .before .before .before .before .before .is-short .ensures) (c .before .before .before .before .before .before .before .before .before .before .before .before .if2 .left)
-    (e .0) (e .1 .0) (e .1 .1 .0) (e .1 .1 .1) _ (c .before .r2 .given .1)
+    let r = c .before .before .before .before .before .before .before .before in
+    let l = from-lines r in
+    let e = from-short (l .before) in
+    let k = r .read-lines .ensures in
+    lines-refused _ _ _ _ (whole (e .before .before .before)) _ (e .before .is-bad-count .ensures) (e .if1 .left) _
+    (l .before .is-short .ensures) (l .if2 .left)
+    (k .0) (k .1 .0) (k .1 .1 .0) (k .1 .1 .1) _ (c .before .r2 .given .1)
 
 same-length-7 : tie.Need-same-length-7
 same-length-7 c = search needs
@@ -81,9 +98,13 @@ same-length-9 c = search needs
 
 returns-5 : tie.Need-returns-5
 returns-5 c =
-    let e = c .before .before .before .before .before .before .before .read-lines .ensures in
-    lines-accepted _ _ _ _ (whole (c .before .before .before .before .before .before .before .before .before .before .before .before .before .before .before .before .before .before .before)) _ (c .before .before .before .before .before .before .before .before .before .before .before .before .before .before .before .before .before .is-bad-count .ensures) (c .before .before .before .before .before .before .before .before .before .before .before .before .before .before .before .before .if1 .left) _ (c .before .before .before .before .before .before .before .before .before .before .before .before .is-short .ensures) (c .before .before .before .before .before .before .before .before .before .before .before .if2 .left)
-    (e .0) (e .1 .0) (e .1 .1 .0) (e .1 .1 .1) (c .enum-told .given .1)
+    let r = c .before .before .before .before .before .before .before in
+    let l = from-lines r in
+    let e = from-short (l .before) in
+    let k = r .read-lines .ensures in
+    lines-accepted _ _ _ _ (whole (e .before .before .before)) _ (e .before .is-bad-count .ensures) (e .if1 .left) _
+    (l .before .is-short .ensures) (l .if2 .left)
+    (k .0) (k .1 .0) (k .1 .1 .0) (k .1 .1 .1) (c .enum-told .given .1)
 
 pub read-off-spec : {M : Type 1} → statement M
 read-off-spec =

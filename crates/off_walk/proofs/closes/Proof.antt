@@ -30,7 +30,8 @@ add-result c = search needs
 
 returns-2 : tie.Need-returns-2 Inv-loop μ-loop
 returns-2 c =
-    closes-back _ _ _ _ _ _ _ refl (c .before .before .before .before .before .if1 .left) (c .before .before .loop .inv .1) (c .before .loop-test .taken) (c .if2 .taken)
+    let l = c .before .before in
+    closes-back _ _ _ _ _ _ _ refl (l .before .before .before .if1 .left) (l .loop .inv .1) (c .before .loop-test .taken) (c .if2 .taken)
 
 follow-requires-2 : tie.Need-follow-requires-2 Inv-loop μ-loop
 follow-requires-2 c κs = search needs
@@ -42,12 +43,14 @@ loop-less : tie.Need-loop-less Inv-loop μ-loop
 loop-less c = search needs
 
 loop-again : tie.Need-loop-again Inv-loop μ-loop
-loop-again c = (omega (arith, c .before .before .loop-test .taken), walk-more _ _ _ _ _ _ _ (c .before .before .before .loop .inv .1) (c .before .if2 .left) (c .follow2 .ensures))
+loop-again c =
+    let t = c .before .before in
+    (omega (arith, t .loop-test .taken), walk-more _ _ _ _ _ _ _ (t .before .loop .inv .1) (c .before .if2 .left) (c .follow2 .ensures))
 
 returns-3 : tie.Need-returns-3 Inv-loop μ-loop
 returns-3 c =
-    let l = c .before .loop in
-    closes-never _ _ _ _ _ _ _ refl (c .before .before .before .before .if1 .left) (l .inv .1) (l .inv .0) (c .loop-test .left)
+    let l = c .before in
+    closes-never _ _ _ _ _ _ _ refl (l .before .before .before .if1 .left) (l .loop .inv .1) (l .loop .inv .0) (c .loop-test .left)
 
 pub closes-spec : {M : Type 1} → statement M
 closes-spec =
