@@ -18,7 +18,7 @@ unfoldable pub tens : ℕ → ℕ
 tens zero = 1
 tens (suc k) = tens k * 10
 
-pub tens-some : (k : ℕ) → 1 ≤ tens k
+tens-some : (k : ℕ) → 1 ≤ tens k
 unfolding tens
 tens-some zero = omega arith
 tens-some (suc k) = omega (arith, tens-some k)
@@ -28,7 +28,7 @@ unfolding tens
 tens-more k zero = rw (add-zero k) (omega arith)
 tens-more k (suc d) = rw (add-suc k d) (omega (arith, tens-more k d))
 
-pub tens-mono : (k j : ℕ) → k ≤ j → tens k ≤ tens j
+tens-mono : (k j : ℕ) → k ≤ j → tens k ≤ tens j
 tens-mono k j h = let e : k + (j - k) ≡ j = omega arith in rw e at (tens-more k (j - k))
 
 -- ---- one digit, or the digits of the tenth and one more
@@ -55,7 +55,7 @@ digits-most (suc j) n =
     (λ q. omega (arith, length-big j n (q .1), digits-most j (n / 10)))
     (lt-split n 10)
 
-pub digits-some : (j n : ℕ) → 1 ≤ length (digits (suc j) n)
+digits-some : (j n : ℕ) → 1 ≤ length (digits (suc j) n)
 digits-some j n =
     ⊎-elim
     (λ q. rw (digits-small j n (q .1)) (omega arith))
@@ -76,7 +76,7 @@ digits-length (suc j) (suc k) n h g =
     room zero a b = absurd (omega arith)
     room (suc k) a b = omega arith
 
-pub digits-least : (j k n : ℕ) → k < j → tens k ≤ n → k + 1 ≤ length (digits j n)
+digits-least : (j k n : ℕ) → k < j → tens k ≤ n → k + 1 ≤ length (digits j n)
 unfolding tens
 digits-least zero k n h g = absurd (omega arith)
 digits-least (suc j) zero n h g = digits-some j n
@@ -145,7 +145,7 @@ pub number-length : (n last : ℕ) → length (number n last) ≡ length (digits
 unfolding number
 number-length n last = length-append (digits 20 n) (last ∷ [])
 
-pub number-most : (n last : ℕ) → length (number n last) ≤ 21
+number-most : (n last : ℕ) → length (number n last) ≤ 21
 number-most n last = omega (arith, number-length n last, digits-most 20 n)
 
 pub number-fits : (at room n last : ℕ) → at + 21 ≤ room → at + length (number n last) ≤ room
@@ -156,7 +156,7 @@ unfolding signed
 signed-length (pos n) last other = number-length n last ∙ sym (number-length n other)
 signed-length (negsuc n) last other = ap suc (number-length (suc n) last ∙ sym (number-length (suc n) other))
 
-pub signed-most : (z : ℤ) (last : ℕ) → length (signed z last) ≤ 22
+signed-most : (z : ℤ) (last : ℕ) → length (signed z last) ≤ 22
 unfolding signed
 signed-most (pos n) last = omega (arith, number-most n last)
 signed-most (negsuc n) last = omega (arith, number-most (suc n) last)

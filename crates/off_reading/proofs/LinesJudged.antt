@@ -20,12 +20,12 @@ use Rattle.meshfile.proofs.Gathered.{from-start}
 use Rattle.off_rings.specs.Faces.{facesAt, twisted, unfitFaces}
 use Rattle.off_rings.proofs.Turns.{twisted-open}
 use Rattle.off_text.specs.Layout.{textCount, textFaces, textFace}
-use Rattle.off_text.specs.ReadOff.{textRing, textBeyond}
+use Rattle.off_text.specs.ReadOff.{textRing, facesVerdict, textBeyond}
 use Rattle.off_gather.proofs.Rows.{fine-faces}
 use Rattle.off_blocks.specs.Blocks.{Tables}
 use Rattle.off_judge.specs.Judging.{openAt, Judged}
 use Rattle.off_filling.specs.Filling.{Fillable, Filled}
-use Rattle.off_reading.specs.Reading.{Lines, facesVerdict}
+use Rattle.off_reading.specs.Reading.{Lines}
 
 -- the tables of the function's own are as long as blocks need them
 pub tables-long : Tables (replicate 128 0) (replicate 1024 0) (replicate 1024 0)

@@ -19,11 +19,11 @@ use Rattle.rings.specs.declared.Amount.the-variants as amount
 use Rattle.rings.proofs.Verdicts.{if-hit, if-pass, if-accepted, at-accepted}
 use Rattle.rings.proofs.Checks.{told-most, long-tables}
 use Rattle.off_text.specs.Layout.{isCounts, textCount, textFaces, vertexAt, faceLineAt, textPoint, textVerdict}
-use Rattle.off_text.specs.ReadOff.{textRing, readOffVerdict, readOffAnswer, readOffValences, readOffRings, readOffPositions}
+use Rattle.off_text.specs.ReadOff.{textRing, facesVerdict, readOffVerdict, readOffAnswer, readOffValences, readOffRings, readOffPositions}
 use Rattle.off_layout.specs.Judging.{headOf, badVertex, badLine, withText, judgedText}
 use Rattle.off_layout.specs.declared.Text.the-variants as judged
 use Rattle.off_layout.proofs.Lines.{head-found}
-use Rattle.off_reading.specs.Reading.{Lines, facesVerdict}
+use Rattle.off_reading.specs.Reading.{Lines}
 
 -- ---- what the judge hands on
 
@@ -121,7 +121,7 @@ module _ (s vs rs : List ℕ) (ps : List ℤ) where
         lines-known = lines-good T (told-most count b e h) (sym d ∙ g)
 
         rest : readOffVerdict s vs rs ps ≡ facesVerdict s
-        unfolding readOffVerdict andThen facesVerdict
+        unfolding readOffVerdict andThen
         rest =
             rw (T .accepted)
             (if-pass _ _ _ b (e ∙ ap badCount (T .count-is)) h ∙ if-pass _ _ _ l (d ∙ ap (λ n. shortTables n vs rs ps) (T .count-is)) g)

@@ -1,18 +1,12 @@
--- What the part of reading behind 20, 2 and 1 relies on and answers.
+-- What the part of reading behind 20, 2 and 1 relies on.
 -- Assumes nothing.
 use mathlib.Core.Path.{_≡_}
 use mathlib.Core.List.{List}
 use Prim.Native.Nat.{ℕ, _*_, _≤_}
 use lib.IntN.{ℤ}
 use lib.ListN.{length}
-use Rattle.rings.specs.Verdict.{refuseAt}
 use Rattle.rings.specs.Accepts.{Room}
-use Rattle.rings.specs.declared.Refusal.the-variants.{OpenRing, ImproperRing, TooFar}
-use Rattle.rings.specs.declared.Verdict.{Verdict}
-use Rattle.rings.specs.declared.Verdict.the-variants.{Accepted}
-use Rattle.off_rings.specs.Faces.{twisted, unfitFaces}
-use Rattle.off_text.specs.Layout.{textCount, textFaces, textFace}
-use Rattle.off_text.specs.ReadOff.{textBeyond}
+use Rattle.off_text.specs.Layout.{textCount}
 use Rattle.off_gather.specs.Gathering.{FaceLines}
 use Rattle.off_points.specs.Points.{VertexLines}
 
@@ -23,11 +17,3 @@ pub record Lines (s : List ℕ) (count faces points corners : ℕ) (vs rs : List
   pub face-lines : FaceLines s faces corners
   pub room : Room count vs rs
   pub points-room : count * 3 ≤ length ps
-
--- 21, 4, 7
-unfoldable pub facesVerdict : List ℕ → Verdict
-facesVerdict s =
-    refuseAt (twisted (textCount s) (textFaces s) (textFace s)) (textCount s) OpenRing
-    (refuseAt (unfitFaces (textCount s) (textFaces s) (textFace s)) (textCount s) ImproperRing
-    (refuseAt (textBeyond s) (textCount s) TooFar
-    Accepted))

@@ -22,7 +22,7 @@ use Rattle.off_rings.specs.Faces.{facesAt, after, least, faceRing, backIn, clos
 use Rattle.off_rings.specs.Listed.{faceAt, begins, facesFrom, facesBelow, listed}
 use Rattle.off_text.specs.Layout.{isWord, textCount, textFaces, textEdges, isCounts, isVertex, afterVertex, vertexAt, axisAt}
 use Rattle.off_text.specs.Layout.{textPoint, cornersAt, isCorners, isFace, afterFace, faceLineAt, textFace, textVerdict}
-use Rattle.off_text.specs.ReadOff.{textRing, textBeyond, readOffVerdict}
+use Rattle.off_text.specs.ReadOff.{textRing, textBeyond, facesVerdict, readOffVerdict}
 use Rattle.off_text.specs.WriteOff.{word, countsLine, vertexLine, faceLine, faceLines}
 
 -- ---- document 01's tetrahedron and octahedron
@@ -134,7 +134,7 @@ pub first-lines :
 unfolding firstFrom first some refuseIf refuseAt andThen badCount shortRings shortTables beyond byteAt digitAt runAt valueOf valueAt afterAt padded
     isNumber minusAt isUnit unitAt afterUnit badFace corner before behind hasPair steps trail pairs facesAt after least faceRing backIn closed doubled
     twisted unfitFaces isWord textCount textFaces textEdges isCounts isVertex afterVertex vertexAt axisAt textPoint cornersAt isCorners isFace
-    afterFace faceLineAt textFace textVerdict textBeyond readOffVerdict countsLine vertexLine faceLine faceLines digits number signed
+    afterFace faceLineAt textFace textVerdict textBeyond facesVerdict readOffVerdict countsLine vertexLine faceLine faceLines digits number signed
 first-lines = refl
 
 -- 20: a plus sign; -0; a coordinate of more than 32 bits
@@ -148,7 +148,7 @@ pub vertex-lines :
 unfolding firstFrom first some refuseIf refuseAt andThen badCount shortRings shortTables beyond byteAt digitAt runAt valueOf valueAt afterAt padded
     isNumber minusAt isUnit unitAt afterUnit badFace corner before behind hasPair steps trail pairs facesAt after least faceRing backIn closed doubled
     twisted unfitFaces isWord textCount textFaces textEdges isCounts isVertex afterVertex vertexAt axisAt textPoint cornersAt isCorners isFace
-    afterFace faceLineAt textFace textVerdict textBeyond readOffVerdict countsLine vertexLine faceLine faceLines digits number signed
+    afterFace faceLineAt textFace textVerdict textBeyond facesVerdict readOffVerdict countsLine vertexLine faceLine faceLines digits number signed
 vertex-lines = refl
 
 -- 20: a corner repeated; a corner not below V; a line missing; no newline behind the last; a byte behind it
@@ -164,7 +164,7 @@ pub face-lines :
 unfolding firstFrom first some refuseIf refuseAt andThen badCount shortRings shortTables beyond byteAt digitAt runAt valueOf valueAt afterAt padded
     isNumber minusAt isUnit unitAt afterUnit badFace corner before behind hasPair steps trail pairs facesAt after least faceRing backIn closed doubled
     twisted unfitFaces isWord textCount textFaces textEdges isCounts isVertex afterVertex vertexAt axisAt textPoint cornersAt isCorners isFace
-    afterFace faceLineAt textFace textVerdict textBeyond readOffVerdict countsLine vertexLine faceLine faceLines digits number signed
+    afterFace faceLineAt textFace textVerdict textBeyond facesVerdict readOffVerdict countsLine vertexLine faceLine faceLines digits number signed
 face-lines = refl
 
 -- accepted; 2 for three vertices; 1 for nine; 7 for a coordinate of 32 bits that is beyond the range
@@ -179,7 +179,7 @@ pub whole-texts :
 unfolding firstFrom first some refuseIf refuseAt andThen badCount shortRings shortTables beyond byteAt digitAt runAt valueOf valueAt afterAt padded
     isNumber minusAt isUnit unitAt afterUnit badFace corner before behind hasPair steps trail pairs facesAt after least faceRing backIn closed doubled
     twisted unfitFaces isWord textCount textFaces textEdges isCounts isVertex afterVertex vertexAt axisAt textPoint cornersAt isCorners isFace
-    afterFace faceLineAt textFace textVerdict textBeyond readOffVerdict countsLine vertexLine faceLine faceLines digits number signed
+    afterFace faceLineAt textFace textVerdict textBeyond facesVerdict readOffVerdict countsLine vertexLine faceLine faceLines digits number signed
 whole-texts = refl
 
 -- 21 and 4: a face twice, so that 0 begins a pair of two faces; a fan that stays open; no face at all; two faces back to back;
@@ -196,5 +196,5 @@ pub vertices :
 unfolding firstFrom first some refuseIf refuseAt andThen badCount shortRings shortTables beyond byteAt digitAt runAt valueOf valueAt afterAt padded
     isNumber minusAt isUnit unitAt afterUnit badFace corner before behind hasPair steps trail pairs facesAt after least faceRing backIn closed doubled
     twisted unfitFaces isWord textCount textFaces textEdges isCounts isVertex afterVertex vertexAt axisAt textPoint cornersAt isCorners isFace
-    afterFace faceLineAt textFace textVerdict textBeyond readOffVerdict countsLine vertexLine faceLine faceLines digits number signed
+    afterFace faceLineAt textFace textVerdict textBeyond facesVerdict readOffVerdict countsLine vertexLine faceLine faceLines digits number signed
 vertices = refl

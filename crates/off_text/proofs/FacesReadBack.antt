@@ -31,7 +31,7 @@ use Rattle.rings.proofs.Verdicts.{then-accepted, if-clear, at-clear}
 use Rattle.rings.proofs.Accepted.{accepted-only}
 use Rattle.off_rings.specs.Faces.{faceRing}
 use Rattle.off_text.specs.Layout.{textCount, textFaces, textFace, textPoint}
-use Rattle.off_text.specs.ReadOff.{textBeyond, readOffVerdict, readOffAnswer, readOffValences, readOffRings, readOffPositions}
+use Rattle.off_text.specs.ReadOff.{textBeyond, facesVerdict, readOffVerdict, readOffAnswer, readOffValences, readOffRings, readOffPositions}
 use Rattle.off_text.specs.WriteOff.{text, writeOffVerdict}
 use Rattle.off_text.proofs.NumbersRead.{Held}
 use Rattle.off_text.proofs.WrittenTextReadsBack.{Writable, V-back, points-back, text-accepted, faces-taken, entries-back, rings-back}
@@ -90,7 +90,7 @@ module _ (n : ℕ) (vs rs : List ℕ) (ps : List ℤ) (room : List ℕ) (h : wri
         or-both _ _ (b 0 (omega arith)) (or-both _ _ (b 1 (omega arith)) (b 2 (omega arith)))
 
     pub read-accepted : readOffVerdict (text n vs rs ps room) vs′ rs′ ps′ ≡ Accepted
-    unfolding readOffVerdict badCount
+    unfolding facesVerdict readOffVerdict badCount
     read-accepted =
         let t : List ℕ = text n vs rs ps room in
         let A = accepted-only n vs rs ps checked in

@@ -31,7 +31,7 @@ use Rattle.off_rings.specs.Faces.{badFace, twisted, unfitFaces, faceRing, faceM
 use Rattle.off_rings.proofs.AcceptedFacesAreSound.{Taken, taken-sound, begins-with-smallest}
 use Rattle.off_text.specs.Layout.{isWord, isCounts, isVertex, vertexAt, isCorners, isFace, faceLineAt, cornersAt}
 use Rattle.off_text.specs.Layout.{textCount, textFaces, textFace, textPoint, textVerdict}
-use Rattle.off_text.specs.ReadOff.{textRing, textBeyond, readOffVerdict, readOffValences, readOffRings, readOffPositions}
+use Rattle.off_text.specs.ReadOff.{textRing, textBeyond, facesVerdict, readOffVerdict, readOffValences, readOffRings, readOffPositions}
 
 face-good : (s : List ℕ) (at : ℕ) → isFace s at ≡ true → badFace (textCount s) (cornersAt s at) ≡ false
 unfolding isFace
@@ -58,7 +58,7 @@ module _ (s vs rs : List ℕ) (ps : List ℤ) where
     pub near : Clear (textBeyond s) (textCount s)
 
   passed : readOffVerdict s vs rs ps ≡ Accepted → Passed
-  unfolding readOffVerdict
+  unfolding facesVerdict readOffVerdict
   passed h =
       let t = then-accepted (textVerdict s) _ h in
       let a = if-accepted (badCount (textCount s)) _ _ (t .1) in

@@ -25,17 +25,22 @@ module _ (s : List ℕ) where
   unfoldable pub textBeyond : ℕ → Bool
   textBeyond v = beyond (textPoint s 0 v) || (beyond (textPoint s 1 v) || beyond (textPoint s 2 v))
 
+  -- 21, 4, 7
+  unfoldable pub facesVerdict : Verdict
+  facesVerdict =
+      refuseAt (twisted (textCount s) (textFaces s) (textFace s)) (textCount s) OpenRing
+      (refuseAt (unfitFaces (textCount s) (textFaces s) (textFace s)) (textCount s) ImproperRing
+      (refuseAt textBeyond (textCount s) TooFar
+      Accepted))
+
 module _ (s vs rs : List ℕ) (ps : List ℤ) where
-  -- 20, 2, 1, 21, 4, 7
+  -- 20, 2, 1, then those of the faces and the points
   unfoldable pub readOffVerdict : Verdict
   readOffVerdict =
       andThen (textVerdict s)
       (refuseIf (badCount (textCount s)) BadCount
       (refuseIf (shortTables (textCount s) vs rs ps) ControlTooShort
-      (refuseAt (twisted (textCount s) (textFaces s) (textFace s)) (textCount s) OpenRing
-      (refuseAt (unfitFaces (textCount s) (textFaces s) (textFace s)) (textCount s) ImproperRing
-      (refuseAt (textBeyond s) (textCount s) TooFar
-      Accepted)))))
+      (facesVerdict s)))
 
   -- V
   unfoldable pub readOffAnswer : Amount
