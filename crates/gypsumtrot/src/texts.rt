@@ -34,7 +34,8 @@ pub extern "C" fn gt_write_off(
     count: usize,
     text: &mut [u8],
 ) -> ValueAnswer
-    ensures { λ r. ⌜ valuePaper r ≡ paperAmount (writeOffAnswer count (now (valences .entry)) (now (rings .entry)) (now (positions .entry)) (now (text .entry))) ⌝ }
+    ensures { λ r. ⌜ valuePaper r
+        ≡ paperAmount (writeOffAnswer count (now (valences .entry)) (now (rings .entry)) (now (positions .entry)) (now (text .entry))) ⌝ }
     ensures { λ _. ⌜ now (text .exit) ≡ writeOffRoom count (now (valences .entry)) (now (rings .entry)) (now (positions .entry)) (now (text .entry)) ⌝ }
 {
     of_amount(write_off(valences, rings, positions, count, text))
