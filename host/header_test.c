@@ -136,7 +136,7 @@ static void try_bits(void) {
 
 int main(void) {
     uint64_t state = 5;
-    HOLD(GT_VERSION_MAJOR == 2 && GT_VERSION_MINOR == 1 && GT_VERSION_PATCH == 0 && GT_VERSION == 20100);
+    HOLD(GT_VERSION_MAJOR == 2 && GT_VERSION_MINOR == 1 && GT_VERSION_PATCH == 1 && GT_VERSION == 20101);
     HOLD(gt_stack_rows(4, 6, 1) == 14 && gt_stack_rows(6, 12, 4) == 1374);
     try_reasons();
     try_bits();

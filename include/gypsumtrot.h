@@ -2,7 +2,8 @@
  * text.
  *
  * The library keeps nothing between calls and allocates nothing: every call works in tables that you lend it.
- * It has no global state, so calls on different tables may run at the same time.
+ * It has no global state, so calls on different tables may run at the same time. Of the machine's stack gt_check and the
+ * calls on one ring take 256 bytes at most, with their answer and arguments; every other call takes 6,144 at most.
  *
  * TABLES. A mesh of V vertices, numbered from 0, lies in three tables:
  *   valences   one 16-bit number a vertex: how many neighbours it has;
@@ -35,7 +36,7 @@
 /* The version of this header and of the archive that goes with it. */
 #define GT_VERSION_MAJOR 2       /* grows if a program written for the version before may have to be changed */
 #define GT_VERSION_MINOR 1       /* grows if something is added, and nothing that was there changes */
-#define GT_VERSION_PATCH 0       /* grows if only costs or comments change, or a fault is mended */
+#define GT_VERSION_PATCH 1       /* grows if only costs or comments change, or a fault is mended */
 /* All three as one number that grows with each version: 10203 is 1.2.3. It serves in #if. */
 #define GT_VERSION (10000 * GT_VERSION_MAJOR + 100 * GT_VERSION_MINOR + GT_VERSION_PATCH)
 
