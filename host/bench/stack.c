@@ -65,7 +65,7 @@ static void repeat(void) { rings[1] = rings[0]; }
 static void one_sided(void) { rings[0] = (uint16_t)stranger; }
 static void crossed(void) { rings[0] = (uint16_t)next_neighbour, rings[1] = (uint16_t)neighbour; }
 static void far_off(void) { positions[0] = INT32_MAX; }
-static void torn(void) { file[file_length / 2] ^= 255, text[text_length / 2] = 'x'; }
+static void torn(void) { file[file_length - 1] ^= 255, text[text_length - 2] = 'x'; }
 static const struct { void (*fault)(void); size_t number; } faults[] = {
     {nothing, GT_ACCEPTED}, {repeat, GT_RING_IMPROPER}, {one_sided, GT_NOT_MUTUAL}, {crossed, GT_NOT_TRIANGLE},
     {far_off, GT_CONTROL_COORDINATE}, {torn, GT_ACCEPTED},
@@ -106,6 +106,14 @@ static void stop(const char *name, size_t wanted) {
     exit(1);
 }
 
+/* Torn bytes are refused. */
+static void hold_torn(void) {
+    read_file();
+    if (answered != GT_FILE_LAYOUT) stop("gt_read", GT_FILE_LAYOUT);
+    read_text();
+    if (answered != GT_BAD_TEXT) stop("gt_read_off", GT_BAD_TEXT);
+}
+
 int main(void) {
     static const struct { const char *name; void (*call)(void); } all[] = {
         {"gt_check", check}, {"gt_contains", contains}, {"gt_next", next}, {"gt_prev", prev}, {"gt_valence", valence},
@@ -130,6 +138,7 @@ int main(void) {
             faults[k].fault();
             check();
             if (answered != faults[k].number) stop("gt_check", faults[k].number);
+            if (faults[k].fault == torn) hold_torn();
             measure(all[i].call);
             if (k == 0 && answered != GT_ACCEPTED) stop(all[i].name, GT_ACCEPTED);
             if (below > deepest) deepest = below;
