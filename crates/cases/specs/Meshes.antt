@@ -1,3 +1,4 @@
+-- To be believed.
 -- The small meshes of document 01 as lent tables.
 -- Assumes nothing.
 use mathlib.Core.List.{List, [], _∷_, _++_, map}

@@ -5,13 +5,14 @@ ghost use Prim.Native.Nat.{_+_, _*_, _≤_};
 ghost use lib.ListN.{length};
 ghost use Rattle.mesh.specs.Limits.{mostValence};
 ghost use Rattle.rings.specs.Table.{valenceRows, ringRows, pointRows};
-ghost use Rattle.meshfile.specs.Layout.{fileRing, filePoint, rowAt};
-ghost use Rattle.meshfile.specs.Judging.{Rows};
-ghost use Rattle.meshfile.specs.Blocks.{Put};
+ghost use Rattle.file_format.specs.Layout.{fileRing, filePoint, rowAt};
+ghost use Rattle.file_format.specs.Judging.{Rows};
+ghost use Rattle.file_format.specs.Blocks.{Put};
+use file_format::bytes::coordinate_at;
+use file_format::bytes::two_at;
+use file_format::records::place_after;
 use file_rings::reading::read_ring;
-use meshfile::bytes::coordinate_at;
-use meshfile::bytes::two_at;
-use meshfile::records::place_after;
+use mesh::limits::Vertex;
 
 // The point of v.
 fn read_point(bytes: &[u8], at: usize, positions: &mut [i32], v: usize)
@@ -33,7 +34,7 @@ fn read_point(bytes: &[u8], at: usize, positions: &mut [i32], v: usize)
 pub fn read_rows(
     bytes: &[u8],
     valences: &mut [u16],
-    rings: &mut [u16],
+    rings: &mut [Vertex],
     positions: &mut [i32],
     count: usize,
 )

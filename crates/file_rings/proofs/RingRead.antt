@@ -5,15 +5,16 @@ use mathlib.Core.List.{List, [], _∷_, _++_}
 use native.Mathlib.Nat.{add-zero}
 use native.Mathlib.Omega.{arith}
 use lib.ListN.{length, set, replicate, length-replicate, length-set, replicate-append-replicate}
+use Rattle.mesh.specs.Limits.{nullVertex}
 use Rattle.rings.specs.Table.{put, gather, padded}
 use Rattle.rings.specs.declared.Amount.the-variants as amount
 use Rattle.rings.proofs.Tables.{length-gather}
-use Rattle.meshfile.specs.Bytes.{numberAt}
-use Rattle.meshfile.specs.Blocks.{Put, gatherFrom}
-use Rattle.meshfile.specs.Layout.{rowAt, fileValence, neighbourAt, fileRing}
-use Rattle.meshfile.specs.Judging.{Row}
-use Rattle.meshfile.proofs.Gathered.{length-from}
-use Rattle.meshfile.proofs.Blocks.{put-one, then, put-is, renewed}
+use Rattle.file_format.specs.Bytes.{numberAt}
+use Rattle.file_format.specs.Blocks.{Put, gatherFrom}
+use Rattle.file_format.specs.Layout.{rowAt, fileValence, neighbourAt, fileRing}
+use Rattle.file_format.specs.Judging.{Row}
+use Rattle.file_format.proofs.Gathered.{length-from}
+use Rattle.file_format.proofs.Blocks.{put-one, then, put-is, renewed}
 
 -- one element that a call gave
 pub one-is : {A : Type 0} {l : List A} {i : ℕ} {a b : A} → b ≡ a → i < length l → Put l i (a ∷ []) (set l i b)
@@ -21,8 +22,8 @@ one-is {A} {l} {i} e h = put-is (ap (λ (x : A). x ∷ []) e) (put-one h)
 
 -- ---- a row of null vertices
 
-pub row-cleared : {l m : List ℕ} (v : ℕ) → v * 32 + 32 ≤ length l → m ≡ put l (v * 32 + 0) (replicate 32 65535) → Put l (v * 32) (replicate 32 65535) m
-row-cleared {l} {m} v h e = record { fits = let w = length-replicate {A = ℕ} 32 65535 in omega arith; is = e ∙ ap (λ (k : ℕ). put l k (replicate 32 65535)) (add-zero (v * 32)) }
+pub row-cleared : {l m : List ℕ} (v : ℕ) → v * 32 + 32 ≤ length l → m ≡ put l (v * 32 + 0) (replicate 32 nullVertex) → Put l (v * 32) (replicate 32 nullVertex) m
+row-cleared {l} {m} v h e = record { fits = let w = length-replicate {A = ℕ} 32 nullVertex in omega arith; is = e ∙ ap (λ (k : ℕ). put l k (replicate 32 nullVertex)) (add-zero (v * 32)) }
 
 -- ---- neighbours
 
@@ -45,15 +46,15 @@ unfolding fileRing
 ring-here {s} r = ap₂ (λ (k j : ℕ). gather (neighbourAt s (k + 20)) j) (r .begins) (row-valence r)
 
 -- a row of null vertices, and the ring over its front
-pub ring-padded : {s l m t : List ℕ} {v at n k : ℕ} → Row s v at n → Put l (v * 32) (replicate 32 65535) m → Put m k (gather (neighbourAt s (at + 20)) n) t → k ≡ v * 32 → Put l (v * 32) (padded (fileRing s v)) t
+pub ring-padded : {s l m t : List ℕ} {v at n k : ℕ} → Row s v at n → Put l (v * 32) (replicate 32 nullVertex) m → Put m k (gather (neighbourAt s (at + 20)) n) t → k ≡ v * 32 → Put l (v * 32) (padded (fileRing s v)) t
 unfolding padded
 ring-padded {s} {l} {m} {t} {v} {at} {n} {k} r p q e =
     let ring = fileRing s v in
     let h : length ring ≡ n = length-ring s v ∙ sym (row-valence r) in
     let x : 32 ≡ n + (32 - length ring) = let w = r .most in omega arith in
-    let y : replicate {A = ℕ} 32 65535 ≡ replicate n 65535 ++ replicate (32 - length ring) 65535 =
-    ap (λ (j : ℕ). replicate {A = ℕ} j 65535) x ∙ sym (replicate-append-replicate n (32 - length ring) 65535) in
-    renewed (replicate n 65535) (replicate (32 - length ring) 65535) ring (put-is y p) (subst (λ (j : ℕ). Put m j ring t) e (put-is (ring-here r) q)) (h ∙ sym (length-replicate {A = ℕ} n 65535))
+    let y : replicate {A = ℕ} 32 nullVertex ≡ replicate n nullVertex ++ replicate (32 - length ring) nullVertex =
+    ap (λ (j : ℕ). replicate {A = ℕ} j nullVertex) x ∙ sym (replicate-append-replicate n (32 - length ring) nullVertex) in
+    renewed (replicate n nullVertex) (replicate (32 - length ring) nullVertex) ring (put-is y p) (subst (λ (j : ℕ). Put m j ring t) e (put-is (ring-here r) q)) (h ∙ sym (length-replicate {A = ℕ} n nullVertex))
 
 -- four elements
 four-is : {l : List ℕ} {k : ℕ} {x y z w p q r t : ℕ} → p ≡ x → q ≡ y → r ≡ z → t ≡ w → k + 4 ≤ length l → Put l k (x ∷ y ∷ z ∷ w ∷ []) (set (set (set (set l k p) (k + 1) q) (k + 2) r) (k + 3) t)

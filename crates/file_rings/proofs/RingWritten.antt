@@ -7,11 +7,11 @@ use lib.ListN.{length, getD}
 use Rattle.rings.specs.Table.{gather}
 use Rattle.rings.specs.declared.Amount.the-variants as amount
 use Rattle.rings.proofs.Tables.{length-gather}
-use Rattle.meshfile.specs.Bytes.{bytesOf}
-use Rattle.meshfile.specs.Blocks.{Put, gatherFrom}
+use Rattle.file_format.specs.Bytes.{bytesOf}
+use Rattle.file_format.specs.Blocks.{Put, gatherFrom}
 use Rattle.file_rings.specs.Neighbours.{neighbourBytes}
-use Rattle.meshfile.proofs.Gathered.{length-from}
-use Rattle.meshfile.proofs.Blocks.{then, put-is}
+use Rattle.file_format.proofs.Gathered.{length-from}
+use Rattle.file_format.proofs.Blocks.{then, put-is}
 
 pub length-neighbour-bytes : (ring : List ℕ) (n : ℕ) → length (gather (neighbourBytes ring) n) ≡ n * 2
 length-neighbour-bytes ring n = length-gather (neighbourBytes ring) 2 (λ i. refl) n

@@ -1,8 +1,9 @@
+-- To be believed.
 -- The neighbours of a ring as bytes. Assumes nothing.
 use mathlib.Core.List.{List}
 use Prim.Native.Nat.{ℕ}
 use lib.ListN.{getD}
-use Rattle.meshfile.specs.Bytes.{bytesOf}
+use Rattle.file_format.specs.Bytes.{bytesOf}
 
 -- neighbour i of a ring
 abbrev pub neighbourBytes : List ℕ → ℕ → List ℕ

@@ -3,15 +3,16 @@ ghost use Prim.Native.Nat.{_+_, _-_, _*_, _/_, _≤_};
 ghost use lib.ListN.{length};
 ghost use Rattle.mesh.specs.Limits.{mostValence};
 ghost use Rattle.rings.specs.Table.{gather, padded};
-ghost use Rattle.meshfile.specs.Layout.{neighbourAt, fileRing};
-ghost use Rattle.meshfile.specs.Judging.{Row};
-ghost use Rattle.meshfile.specs.Blocks.{Put, gatherFrom};
-use meshfile::bytes::two_at;
-use rings::MOST_VALENCE;
+ghost use Rattle.file_format.specs.Layout.{neighbourAt, fileRing};
+ghost use Rattle.file_format.specs.Judging.{Row};
+ghost use Rattle.file_format.specs.Blocks.{Put, gatherFrom};
+use file_format::bytes::two_at;
+use mesh::limits::MOST_VALENCE;
+use mesh::limits::Vertex;
 use rings::table::write_unused;
 
 // Four neighbours, from the i-th on.
-fn read_four(bytes: &[u8], from: usize, rings: &mut [u16], to: usize, i: usize)
+fn read_four(bytes: &[u8], from: usize, rings: &mut [Vertex], to: usize, i: usize)
     requires { ⌜ from + (i + 4) * 2 ≤ length (now bytes) ⌝ }
     requires { ⌜ to + (i + 4) ≤ length (now rings) ⌝ }
     ensures { λ r. ⌜ Put (now (rings .entry)) (to + i) (gatherFrom (neighbourAt (now (bytes .entry)) from) i 4) (now (rings .exit)) ⌝ }
@@ -22,14 +23,14 @@ fn read_four(bytes: &[u8], from: usize, rings: &mut [u16], to: usize, i: usize)
     let c = two_at(bytes, at + 4);
     let d = two_at(bytes, at + 6);
     let place = to + i;
-    rings[place] = a as u16;
-    rings[place + 1] = b as u16;
-    rings[place + 2] = c as u16;
-    rings[place + 3] = d as u16;
+    rings[place] = a as Vertex;
+    rings[place + 1] = b as Vertex;
+    rings[place + 2] = c as Vertex;
+    rings[place + 3] = d as Vertex;
 }
 
 // Whole fours of n neighbours, behind the first four.
-fn read_fours(bytes: &[u8], from: usize, rings: &mut [u16], to: usize, n: usize)
+fn read_fours(bytes: &[u8], from: usize, rings: &mut [Vertex], to: usize, n: usize)
     requires { ⌜ 4 ≤ n ⌝ }
     requires { ⌜ from + n * 2 ≤ length (now bytes) ⌝ }
     requires { ⌜ to + n ≤ length (now rings) ⌝ }
@@ -43,20 +44,20 @@ fn read_fours(bytes: &[u8], from: usize, rings: &mut [u16], to: usize, n: usize)
 }
 
 // Neighbours one by one.
-fn read_each(bytes: &[u8], from: usize, rings: &mut [u16], to: usize, n: usize)
+fn read_each(bytes: &[u8], from: usize, rings: &mut [Vertex], to: usize, n: usize)
     requires { ⌜ from + n * 2 ≤ length (now bytes) ⌝ }
     requires { ⌜ to + n ≤ length (now rings) ⌝ }
     ensures { λ r. ⌜ Put (now (rings .entry)) to (gather (neighbourAt (now (bytes .entry)) from) n) (now (rings .exit)) ⌝ }
 {
     let mut i = 0;
     while i < n {
-        rings[to + i] = two_at(bytes, from + i * 2) as u16;
+        rings[to + i] = two_at(bytes, from + i * 2) as Vertex;
         i += 1;
     }
 }
 
 // The n neighbours that stand from a place on. The last four are read again where n is no multiple of four.
-fn read_neighbours(bytes: &[u8], from: usize, rings: &mut [u16], to: usize, n: usize)
+fn read_neighbours(bytes: &[u8], from: usize, rings: &mut [Vertex], to: usize, n: usize)
     requires { ⌜ from + n * 2 ≤ length (now bytes) ⌝ }
     requires { ⌜ to + n ≤ length (now rings) ⌝ }
     ensures { λ r. ⌜ Put (now (rings .entry)) to (gather (neighbourAt (now (bytes .entry)) from) n) (now (rings .exit)) ⌝ }
@@ -71,7 +72,7 @@ fn read_neighbours(bytes: &[u8], from: usize, rings: &mut [u16], to: usize, n: u
 }
 
 // The whole row of places of v.
-pub fn read_ring(bytes: &[u8], at: usize, rings: &mut [u16], v: usize, n: usize)
+pub fn read_ring(bytes: &[u8], at: usize, rings: &mut [Vertex], v: usize, n: usize)
     requires { ⌜ Row (now bytes) v at n ⌝ }
     requires { ⌜ v * mostValence + mostValence ≤ length (now rings) ⌝ }
     ensures { λ r. ⌜ Put (now (rings .entry)) (v * mostValence) (padded (fileRing (now (bytes .entry)) v)) (now (rings .exit)) ⌝ }

@@ -2,12 +2,13 @@
 ghost use Prim.Native.Nat.{_+_, _-_, _*_, _/_, _≤_};
 ghost use lib.ListN.{length};
 ghost use Rattle.rings.specs.Table.{gather};
-ghost use Rattle.meshfile.specs.Blocks.{Put, gatherFrom};
+ghost use Rattle.file_format.specs.Blocks.{Put, gatherFrom};
 ghost use Rattle.file_rings.specs.Neighbours.{neighbourBytes};
-use meshfile::bytes::put_two;
+use file_format::bytes::put_two;
+use mesh::limits::Vertex;
 
 // Four neighbours, from the i-th on. All are fetched before the first is written.
-fn write_four(file: &mut [u8], at: usize, ring: &[u16], i: usize)
+fn write_four(file: &mut [u8], at: usize, ring: &[Vertex], i: usize)
     requires { ⌜ i + 4 ≤ length (now ring) ⌝ }
     requires { ⌜ at + (i + 4) * 2 ≤ length (now file) ⌝ }
     ensures { λ r. ⌜ Put (now (file .entry)) (at + i * 2) (gatherFrom (neighbourBytes (now (ring .entry))) i 4) (now (file .exit)) ⌝ }
@@ -24,7 +25,7 @@ fn write_four(file: &mut [u8], at: usize, ring: &[u16], i: usize)
 }
 
 // Whole fours of a ring's neighbours, behind the first four.
-fn write_fours(file: &mut [u8], at: usize, ring: &[u16])
+fn write_fours(file: &mut [u8], at: usize, ring: &[Vertex])
     requires { ⌜ 4 ≤ length (now ring) ⌝ }
     requires { ⌜ at + length (now ring) * 2 ≤ length (now file) ⌝ }
     ensures { λ r. ⌜ Put (now (file .entry)) (at + 8) (gatherFrom (neighbourBytes (now (ring .entry))) 4 ((length (now (ring .entry)) - 4) / 4 * 4)) (now (file .exit)) ⌝ }
@@ -37,7 +38,7 @@ fn write_fours(file: &mut [u8], at: usize, ring: &[u16])
 }
 
 // Neighbours one by one.
-fn write_each(file: &mut [u8], at: usize, ring: &[u16])
+fn write_each(file: &mut [u8], at: usize, ring: &[Vertex])
     requires { ⌜ at + length (now ring) * 2 ≤ length (now file) ⌝ }
     ensures { λ r. ⌜ Put (now (file .entry)) at (gather (neighbourBytes (now (ring .entry))) (length (now (ring .entry)))) (now (file .exit)) ⌝ }
 {
@@ -49,7 +50,7 @@ fn write_each(file: &mut [u8], at: usize, ring: &[u16])
 }
 
 // The neighbours of a ring. The last four are written again where their number is no multiple of four.
-pub fn put_ring(file: &mut [u8], at: usize, ring: &[u16])
+pub fn put_ring(file: &mut [u8], at: usize, ring: &[Vertex])
     requires { ⌜ at + length (now ring) * 2 ≤ length (now file) ⌝ }
     ensures { λ r. ⌜ Put (now (file .entry)) at (gather (neighbourBytes (now (ring .entry))) (length (now (ring .entry)))) (now (file .exit)) ⌝ }
 {

@@ -12,12 +12,12 @@ use lib.ListN.{length, getD, length-append}
 use Rattle.mesh.specs.Search.{sum, first}
 use Rattle.mesh.proofs.First.{first-clear}
 use Rattle.mesh.proofs.Lists.{climbs}
-use Rattle.rings.specs.Table.{gather, ringOf, coordinateAt}
+use Rattle.rings.specs.Table.{Lent, valenceAt, gather, ringOf, coordinateAt}
 use Rattle.rings.specs.Verdict.{refuseIf, refuseAt, after, withAmount}
 use Rattle.rings.specs.Check.{badCount, shortTables}
 use Rattle.rings.specs.Accepts.{HasRow}
 use Rattle.rings.specs.declared.Refusal.{Refusal}
-use Rattle.rings.specs.declared.Refusal.the-variants.{ControlTooShort, BadCount, ImproperRing, NoRoom}
+use Rattle.rings.specs.declared.Refusal.the-variants.{TableTooShort, VertexCount, RingImproper, NoRoom}
 use Rattle.rings.specs.declared.Verdict.{Verdict}
 use Rattle.rings.specs.declared.Verdict.the-variants.{Accepted, Refused}
 use Rattle.rings.specs.declared.Amount.{Amount}
@@ -26,13 +26,13 @@ use Rattle.rings.specs.declared.Amount.the-variants.{Of}
 use Rattle.rings.proofs.Rows.{row-length, room-row}
 use Rattle.rings.proofs.Checks.{long-tables}
 use Rattle.rings.proofs.Verdicts.{if-hit, if-pass, at-hit, at-pass}
-use Rattle.meshfile.specs.Bytes.{bytesOf, bitsOf, recordOf}
-use Rattle.meshfile.specs.Blocks.{Put}
+use Rattle.file_format.specs.Bytes.{bytesOf, bitsOf, recordOf}
+use Rattle.file_format.specs.Blocks.{Put}
 use Rattle.file_rings.specs.Neighbours.{neighbourBytes}
 use Rattle.file_rings.proofs.RingWritten.{length-neighbour-bytes}
 use Rattle.file_writing.specs.Write.{payloadOf, rowBytes, fileOf, rowsLength, overMost, writeVerdict, writeAnswer, writeRoom}
 use Rattle.file_writing.specs.Storing.{pointBytes, Stored}
-use Rattle.meshfile.proofs.Blocks.{then, put-is}
+use Rattle.file_format.proofs.Blocks.{then, put-is}
 
 -- ---- lengths
 
@@ -79,52 +79,52 @@ coordinate-is ps v axis k e = ap (λ (j : ℕ). getD ps j (pos 0)) e
 pub put-coordinate : {l m : List ℕ} {at : ℕ} (ps : List ℤ) (v axis k : ℕ) → k ≡ v * 3 + axis → Put l at (bytesOf 4 (bitsOf (getD ps k (pos 0)))) m → Put l at (bytesOf 4 (bitsOf (coordinateAt ps axis v))) m
 put-coordinate ps v axis k e p = put-is (ap (λ (z : ℤ). bytesOf 4 (bitsOf z)) (coordinate-is ps v axis k e)) p
 
-module _ (vs rs : List ℕ) (ps : List ℤ) (v : ℕ) {r : List ℕ} (e : r ≡ ringOf vs rs v) where
+module _ (t : Lent) (ps : List ℤ) (v : ℕ) {r : List ℕ} (e : r ≡ ringOf t v) where
   -- the four parts of a row, one after the other
   pub row-put : {l m₁ m₂ m₃ m₄ : List ℕ} {at : ℕ} → Put l at (bytesOf 4 (14 + 2 * length r) ++ bytesOf 2 2) m₁ → Put m₁ (at + 6) (pointBytes ps v) m₂ → Put m₂ (at + 18) (bytesOf 2 (length r)) m₃
-      → Put m₃ (at + 20) (gather (neighbourBytes r) (length r)) m₄ → Put l at (rowBytes (ringOf vs rs) (coordinateAt ps) v) m₄
+      → Put m₃ (at + 20) (gather (neighbourBytes r) (length r)) m₄ → Put l at (rowBytes (ringOf t) (coordinateAt ps) v) m₄
   unfolding recordOf payloadOf
-  row-put {l} {m₁} {m₂} {m₃} {m₄} {at} p q s t =
+  row-put {l} {m₁} {m₂} {m₃} {m₄} {at} p q s y =
       let d : 14 + 2 * length r ≡ length (payloadOf r (λ axis. coordinateAt ps axis v)) = sym (length-payload r (λ axis. coordinateAt ps axis v)) in
       let w : Put l at (((bytesOf 4 (14 + 2 * length r) ++ bytesOf 2 2) ++ pointBytes ps v) ++ (bytesOf 2 (length r)) ++ gather (neighbourBytes r) (length r)) m₄ =
-      then (then (then p q refl) s refl) t refl in
+      then (then (then p q refl) s refl) y refl in
       let x : Put l at (recordOf 2 (payloadOf r (λ axis. coordinateAt ps axis v))) m₄ =
       put-is (ap (λ (k : ℕ). bytesOf 4 k ++ (bytesOf 2 2 ++ payloadOf r (λ axis. coordinateAt ps axis v))) d) w in
       put-is (ap (λ (x : List ℕ). recordOf 2 (payloadOf x (λ axis. coordinateAt ps axis v))) e) x
 
 -- ---- all rows
 
-module _ {n : ℕ} {vs rs : List ℕ} {ps : List ℤ} (h : Stored n vs rs ps) where
-  pub stored-row : (v : ℕ) → v < n → HasRow vs rs v
+module _ {n : ℕ} {t : Lent} {ps : List ℤ} (h : Stored n t ps) where
+  pub stored-row : (v : ℕ) → v < n → HasRow t v
   stored-row v l = room-row (h .room) l (h .most v l)
 
-  sum-rows : (m : ℕ) → m ≤ n → sum (λ v. 20 + 2 * length (ringOf vs rs v)) m ≡ rowsLength vs m
+  sum-rows : (m : ℕ) → m ≤ n → sum (λ v. 20 + 2 * length (ringOf t v)) m ≡ rowsLength (t .valences) m
   unfolding rowsLength
   sum-rows zero l = refl
-  sum-rows (suc m) l = omega (arith, sum-rows m (omega arith), row-length vs rs m (stored-row m (omega arith)))
+  sum-rows (suc m) l = omega (arith, sum-rows m (omega arith), row-length t m (stored-row m (omega arith)))
 
-  pub rows-long : (m : ℕ) → m ≤ n → length (gather (rowBytes (ringOf vs rs) (coordinateAt ps)) m) ≡ rowsLength vs m
-  rows-long m l = length-rows (ringOf vs rs) (coordinateAt ps) m ∙ sum-rows m l
+  pub rows-long : (m : ℕ) → m ≤ n → length (gather (rowBytes (ringOf t) (coordinateAt ps)) m) ≡ rowsLength (t .valences) m
+  rows-long m l = length-rows (ringOf t) (coordinateAt ps) m ∙ sum-rows m l
 
-  pub file-long : length (fileOf n (ringOf vs rs) (coordinateAt ps)) ≡ 14 + rowsLength vs n
-  file-long = length-file n (ringOf vs rs) (coordinateAt ps) ∙ ap (λ (k : ℕ). 14 + k) (sum-rows n (omega arith))
+  pub file-long : length (fileOf n (ringOf t) (coordinateAt ps)) ≡ 14 + rowsLength (t .valences) n
+  file-long = length-file n (ringOf t) (coordinateAt ps) ∙ ap (λ (k : ℕ). 14 + k) (sum-rows n (omega arith))
 
   -- the four parts of a file, one after the other
-  pub file-put : {l m₁ m₂ m₃ m₄ : List ℕ} {at : ℕ} → Put l 0 (bytesOf 4 2 ++ bytesOf 2 1) m₁ → Put m₁ 6 (bytesOf 2 n) m₂ → Put m₂ 8 (gather (rowBytes (ringOf vs rs) (coordinateAt ps)) n) m₃
-      → Put m₃ at (bytesOf 4 0 ++ bytesOf 2 3) m₄ → at ≡ 8 + rowsLength vs n → Put l 0 (fileOf n (ringOf vs rs) (coordinateAt ps)) m₄
+  pub file-put : {l m₁ m₂ m₃ m₄ : List ℕ} {at : ℕ} → Put l 0 (bytesOf 4 2 ++ bytesOf 2 1) m₁ → Put m₁ 6 (bytesOf 2 n) m₂ → Put m₂ 8 (gather (rowBytes (ringOf t) (coordinateAt ps)) n) m₃
+      → Put m₃ at (bytesOf 4 0 ++ bytesOf 2 3) m₄ → at ≡ 8 + rowsLength (t .valences) n → Put l 0 (fileOf n (ringOf t) (coordinateAt ps)) m₄
   unfolding fileOf recordOf
-  file-put p q s t e = then (then (then p q refl) s refl) t (let r = rows-long n (omega arith) in omega arith)
+  file-put p q s y e = then (then (then p q refl) s refl) y (let r = rows-long n (omega arith) in omega arith)
 
 -- ---- what each return of `write` shows
 
-abbrev pub Shown : ℕ → List ℕ → List ℕ → List ℤ → List ℕ → Amount → List ℕ → Type 0
-Shown n vs rs ps room a room′ = (a ≡ writeAnswer n vs rs ps room) × (room′ ≡ writeRoom n vs rs ps room)
+abbrev pub Shown : ℕ → Lent → List ℤ → List ℕ → Amount → List ℕ → Type 0
+Shown n t ps room a room′ = (a ≡ writeAnswer n t ps room) × (room′ ≡ writeRoom n t ps room)
 
-module _ (n : ℕ) (vs rs : List ℕ) (ps : List ℤ) (room : List ℕ) where
+module _ (n : ℕ) (t : Lent) (ps : List ℤ) (room : List ℕ) where
   abbrev file : List ℕ
-  file = fileOf n (ringOf vs rs) (coordinateAt ps)
+  file = fileOf n (ringOf t) (coordinateAt ps)
 
-  refused : (r : Refusal) → Refused r ≡ writeVerdict n vs rs ps room → Shown n vs rs ps room (amount.Refused r) room
+  refused : (r : Refusal) → Refused r ≡ writeVerdict n t ps room → Shown n t ps room (amount.Refused r) room
   unfolding writeAnswer writeRoom withAmount after
   refused r e = rw (← e) (refl, refl)
 
@@ -133,50 +133,50 @@ module _ (n : ℕ) (vs rs : List ℕ) (ps : List ℤ) (room : List ℕ) where
   from10 = refuseIf (ltb (length room) (length file)) NoRoom Accepted
 
   abbrev from4 : Verdict
-  from4 = refuseAt (overMost vs) n ImproperRing from10
+  from4 = refuseAt (overMost (t .valences)) n RingImproper from10
 
   abbrev from1 : Verdict
-  from1 = refuseIf (shortTables n vs rs ps) ControlTooShort from4
+  from1 = refuseIf (shortTables n t ps) TableTooShort from4
 
   module _ {a : Bool} (p : a ≡ badCount n) where
-    pub write-bad : a ≡ true → Shown n vs rs ps room (amount.Refused BadCount) room
+    pub write-bad : a ≡ true → Shown n t ps room (amount.Refused VertexCount) room
     unfolding writeVerdict
-    write-bad t = refused BadCount (if-hit (badCount n) BadCount from1 a p t)
+    write-bad y = refused VertexCount (if-hit (badCount n) VertexCount from1 a p y)
 
-    module _ (t : a ≡ false) {b : Bool} (q : b ≡ shortTables n vs rs ps) where
-      past2 : from1 ≡ writeVerdict n vs rs ps room
+    module _ (y : a ≡ false) {b : Bool} (q : b ≡ shortTables n t ps) where
+      past2 : from1 ≡ writeVerdict n t ps room
       unfolding writeVerdict
-      past2 = sym (if-pass (badCount n) BadCount from1 a p t)
+      past2 = sym (if-pass (badCount n) VertexCount from1 a p y)
 
-      pub write-short : b ≡ true → Shown n vs rs ps room (amount.Refused ControlTooShort) room
-      write-short u = refused ControlTooShort (if-hit (shortTables n vs rs ps) ControlTooShort from4 b q u ∙ past2)
+      pub write-short : b ≡ true → Shown n t ps room (amount.Refused TableTooShort) room
+      write-short u = refused TableTooShort (if-hit (shortTables n t ps) TableTooShort from4 b q u ∙ past2)
 
-      module _ (u : b ≡ false) (v : ℕ) (f : v ≡ first (overMost vs) n) where
-        past1 : from4 ≡ writeVerdict n vs rs ps room
-        past1 = sym (if-pass (shortTables n vs rs ps) ControlTooShort from4 b q u) ∙ past2
+      module _ (u : b ≡ false) (v : ℕ) (f : v ≡ first (overMost (t .valences)) n) where
+        past1 : from4 ≡ writeVerdict n t ps room
+        past1 = sym (if-pass (shortTables n t ps) TableTooShort from4 b q u) ∙ past2
 
-        pub write-over : v < n → Shown n vs rs ps room (amount.Refused (ImproperRing v)) room
-        write-over l = refused (ImproperRing v) (at-hit (overMost vs) n ImproperRing from10 v f l ∙ past1)
+        pub write-over : v < n → Shown n t ps room (amount.Refused (RingImproper v)) room
+        write-over l = refused (RingImproper v) (at-hit (overMost (t .valences)) n RingImproper from10 v f l ∙ past1)
 
         module _ (l : n ≤ v) where
-          pub stored : Stored n vs rs ps
+          pub stored : Stored n t ps
           stored =
-              let r = long-tables n vs rs ps (sym q ∙ u) in
-              record { room = r .0; points = r .1; most = λ k h. ltb-false 32 (getD vs k 0) (first-clear (overMost vs) n .below k (omega arith)) }
+              let r = long-tables n t ps (sym q ∙ u) in
+              record { room = r .0; points = r .1; most = λ k h. ltb-false 32 (valenceAt t k) (first-clear (overMost (t .valences)) n .below k (omega arith)) }
 
-          past4 : from10 ≡ writeVerdict n vs rs ps room
-          past4 = sym (at-pass (overMost vs) n ImproperRing from10 v f l) ∙ past1
+          past4 : from10 ≡ writeVerdict n t ps room
+          past4 = sym (at-pass (overMost (t .valences)) n RingImproper from10 v f l) ∙ past1
 
-          module _ (size : ℕ) (s : size ≡ rowsLength vs n) where
-            pub write-full : length room < 14 + size → Shown n vs rs ps room (amount.Refused NoRoom) room
+          module _ (size : ℕ) (s : size ≡ rowsLength (t .valences) n) where
+            pub write-full : length room < 14 + size → Shown n t ps room (amount.Refused NoRoom) room
             write-full h =
                 let g = file-long stored in
                 refused NoRoom (if-hit (ltb (length room) (length file)) NoRoom Accepted (ltb (length room) (length file)) refl (lt-ltb (length room) (length file) (omega arith)) ∙ past4)
 
-            pub write-done : 14 + size ≤ length room → {room′ : List ℕ} → Put room 0 file room′ → Shown n vs rs ps room (Of (14 + size)) room′
+            pub write-done : 14 + size ≤ length room → {room′ : List ℕ} → Put room 0 file room′ → Shown n t ps room (Of (14 + size)) room′
             unfolding writeAnswer writeRoom withAmount after
             write-done h w =
                 let g : length file ≡ 14 + size = file-long stored ∙ ap (λ (k : ℕ). 14 + k) (sym s) in
-                let e : Accepted ≡ writeVerdict n vs rs ps room =
+                let e : Accepted ≡ writeVerdict n t ps room =
                 sym (if-pass (ltb (length room) (length file)) NoRoom Accepted (ltb (length room) (length file)) refl (le-ltb (length room) (length file) (omega arith))) ∙ past4 in
                 rw (← e) (ap Of (sym g), w .is)

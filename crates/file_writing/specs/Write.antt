@@ -1,3 +1,4 @@
+-- To be believed.
 -- Writing a file: 2, 1, 4 where a valence is over 32, 10, and the number of bytes where it is accepted. The file itself is the grammar that reading judges: one record with V, the rows, one last record.
 -- Assumes nothing.
 use mathlib.Core.Bool.{Bool}
@@ -8,14 +9,14 @@ use lib.IntN.{ℤ}
 use lib.ListN.{length, getD}
 use Rattle.mesh.specs.Limits.{mostValence}
 use Rattle.mesh.specs.Search.{sum}
-use Rattle.rings.specs.Table.{gather, put, ringOf, coordinateAt}
+use Rattle.rings.specs.Table.{Lent, gather, put, ringOf, coordinateAt}
 use Rattle.rings.specs.Verdict.{refuseIf, refuseAt, after, withAmount}
 use Rattle.rings.specs.Check.{badCount, shortTables}
-use Rattle.rings.specs.declared.Refusal.the-variants.{ControlTooShort, BadCount, ImproperRing, NoRoom}
+use Rattle.rings.specs.declared.Refusal.the-variants.{TableTooShort, VertexCount, RingImproper, NoRoom}
 use Rattle.rings.specs.declared.Verdict.{Verdict}
 use Rattle.rings.specs.declared.Verdict.the-variants.{Accepted}
 use Rattle.rings.specs.declared.Amount.{Amount}
-use Rattle.meshfile.specs.Bytes.{bytesOf, bitsOf, recordOf}
+use Rattle.file_format.specs.Bytes.{bytesOf, bitsOf, recordOf}
 use Rattle.file_rings.specs.Neighbours.{neighbourBytes}
 
 -- the payload of a row: three coordinates in four bytes each, the valence in two, and the neighbours in two each
@@ -39,17 +40,17 @@ rowsLength vs n = sum (λ v. 20 + 2 * getD vs v 0) n
 abbrev pub overMost : List ℕ → ℕ → Bool
 overMost vs v = ltb mostValence (getD vs v 0)
 
-module _ (n : ℕ) (vs rs : List ℕ) (ps : List ℤ) (room : List ℕ) where
+module _ (n : ℕ) (t : Lent) (ps : List ℤ) (room : List ℕ) where
   -- the file of the tables
   abbrev pub bytes : List ℕ
-  bytes = fileOf n (ringOf vs rs) (coordinateAt ps)
+  bytes = fileOf n (ringOf t) (coordinateAt ps)
 
   -- 2, 1, 4 for a valence over 32, 10
   unfoldable pub writeVerdict : Verdict
   writeVerdict =
-      refuseIf (badCount n) BadCount
-      (refuseIf (shortTables n vs rs ps) ControlTooShort
-      (refuseAt (overMost vs) n ImproperRing
+      refuseIf (badCount n) VertexCount
+      (refuseIf (shortTables n t ps) TableTooShort
+      (refuseAt (overMost (t .valences)) n RingImproper
       (refuseIf (ltb (length room) (length bytes)) NoRoom
       Accepted)))
 

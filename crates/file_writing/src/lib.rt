@@ -4,17 +4,19 @@ ghost use Prim.Native.Nat.{_*_, _≤_};
 ghost use lib.ListN.{length};
 ghost use Rattle.mesh.specs.Limits.{mostCount};
 ghost use Rattle.mesh.specs.Search.{first};
+ghost use Rattle.rings.specs.Table.{lent};
 ghost use Rattle.file_writing.specs.Write.{rowsLength, overMost, writeAnswer, writeRoom};
 
 pub mod rows;
 
 use self::rows::put_head;
 use self::rows::put_rows;
-use meshfile::FIRST;
-use meshfile::LAST;
-use meshfile::bytes::put_two;
+use file_format::FIRST;
+use file_format::LAST;
+use file_format::bytes::put_two;
+use mesh::limits::MOST_VALENCE;
+use mesh::limits::Vertex;
 use rings::Amount;
-use rings::MOST_VALENCE;
 use rings::Refusal;
 use rings::table::is_bad_count;
 use rings::table::is_short;
@@ -53,23 +55,23 @@ fn rows_length(valences: &[u16], count: usize) -> usize
 // Writes the tables as a file: reasons 2, 1, 4 where a valence is over 32, and 10; and the number of bytes. Refused, the room is left as it was.
 pub fn write(
     valences: &[u16],
-    rings: &[u16],
+    rings: &[Vertex],
     positions: &[i32],
     count: usize,
     file: &mut [u8],
 ) -> Amount
-    ensures { λ r. ⌜ r ≡ writeAnswer count (now (valences .entry)) (now (rings .entry)) (now (positions .entry)) (now (file .entry)) ⌝ }
-    ensures { λ r. ⌜ now (file .exit) ≡ writeRoom count (now (valences .entry)) (now (rings .entry)) (now (positions .entry)) (now (file .entry)) ⌝ }
+    ensures { λ r. ⌜ r ≡ writeAnswer count (lent (now (valences .entry)) (now (rings .entry))) (now (positions .entry)) (now (file .entry)) ⌝ }
+    ensures { λ r. ⌜ now (file .exit) ≡ writeRoom count (lent (now (valences .entry)) (now (rings .entry))) (now (positions .entry)) (now (file .entry)) ⌝ }
 {
     if is_bad_count(count) {
-        return Amount::Refused(Refusal::BadCount);
+        return Amount::Refused(Refusal::VertexCount);
     }
     if is_short(valences, rings, positions, count) {
-        return Amount::Refused(Refusal::ControlTooShort);
+        return Amount::Refused(Refusal::TableTooShort);
     }
     let over = first_over(valences, count);
     if over < count {
-        return Amount::Refused(Refusal::ImproperRing(over));
+        return Amount::Refused(Refusal::RingImproper(over));
     }
     let size = 14 + rows_length(valences, count);
     if file.len() < size {

@@ -5,17 +5,18 @@ ghost use Prim.Native.Nat.{_+_, _*_, _<_, _≤_};
 ghost use lib.IntN.{pos};
 ghost use lib.ListN.{length, getD};
 ghost use Rattle.mesh.specs.Limits.{mostValence};
-ghost use Rattle.rings.specs.Table.{gather, ringOf, coordinateAt};
+ghost use Rattle.rings.specs.Table.{lent, gather, ringOf, coordinateAt};
 ghost use Rattle.rings.specs.Accepts.{HasRow};
-ghost use Rattle.meshfile.specs.Bytes.{bytesOf, bitsOf};
-ghost use Rattle.meshfile.specs.Blocks.{Put};
+ghost use Rattle.file_format.specs.Bytes.{bytesOf, bitsOf};
+ghost use Rattle.file_format.specs.Blocks.{Put};
 ghost use Rattle.file_writing.specs.Write.{rowBytes, rowsLength};
 ghost use Rattle.file_writing.specs.Storing.{pointBytes, Stored};
+use file_format::ROW;
+use file_format::bytes::bits_of;
+use file_format::bytes::put_four;
+use file_format::bytes::put_two;
 use file_rings::writing::put_ring;
-use meshfile::ROW;
-use meshfile::bytes::bits_of;
-use meshfile::bytes::put_four;
-use meshfile::bytes::put_two;
+use mesh::limits::Vertex;
 use rings::table::ring_of;
 
 // A record's payload length and kind.
@@ -52,15 +53,15 @@ fn put_row(
     file: &mut [u8],
     at: usize,
     valences: &[u16],
-    rings: &[u16],
+    rings: &[Vertex],
     positions: &[i32],
     v: usize,
 ) -> usize
     requires { ⌜ at + (20 + 2 * getD (now valences) v 0) ≤ length (now file) ⌝ }
     requires { ⌜ getD (now valences) v 0 ≤ mostValence ⌝ }
-    requires { ⌜ HasRow (now valences) (now rings) v ⌝ }
+    requires { ⌜ HasRow (lent (now valences) (now rings)) v ⌝ }
     requires { ⌜ v * 3 + 3 ≤ length (now positions) ⌝ }
-    ensures { λ r. ⌜ Put (now (file .entry)) at (rowBytes (ringOf (now (valences .entry)) (now (rings .entry))) (coordinateAt (now (positions .entry))) v) (now (file .exit)) ⌝ }
+    ensures { λ r. ⌜ Put (now (file .entry)) at (rowBytes (ringOf (lent (now (valences .entry)) (now (rings .entry)))) (coordinateAt (now (positions .entry))) v) (now (file .exit)) ⌝ }
     ensures { λ r. ⌜ r ≡ at + (20 + 2 * getD (now (valences .entry)) v 0) ⌝ }
 {
     let ring = ring_of(valences, rings, v);
@@ -76,13 +77,13 @@ fn put_row(
 pub fn put_rows(
     file: &mut [u8],
     valences: &[u16],
-    rings: &[u16],
+    rings: &[Vertex],
     positions: &[i32],
     count: usize,
 ) -> usize
     requires { ⌜ 8 + rowsLength (now valences) count ≤ length (now file) ⌝ }
-    requires { ⌜ Stored count (now valences) (now rings) (now positions) ⌝ }
-    ensures { λ r. ⌜ Put (now (file .entry)) 8 (gather (rowBytes (ringOf (now (valences .entry)) (now (rings .entry))) (coordinateAt (now (positions .entry)))) count) (now (file .exit)) ⌝ }
+    requires { ⌜ Stored count (lent (now valences) (now rings)) (now positions) ⌝ }
+    ensures { λ r. ⌜ Put (now (file .entry)) 8 (gather (rowBytes (ringOf (lent (now (valences .entry)) (now (rings .entry)))) (coordinateAt (now (positions .entry)))) count) (now (file .exit)) ⌝ }
     ensures { λ r. ⌜ r ≡ 8 + rowsLength (now (valences .entry)) count ⌝ }
 {
     let mut at = 8;

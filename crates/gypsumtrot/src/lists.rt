@@ -1,34 +1,36 @@
 // A list of moves on a refined stack.
 ghost use mathlib.Core.Path.{_≡_};
+ghost use Rattle.rings.specs.Table.{lent};
 ghost use Rattle.rings.specs.Paper.{paperAmount};
-ghost use Rattle.moves.specs.Apply.{applyPositions, applyMap};
-ghost use Rattle.plan.specs.Plan.{Fair};
-ghost use Rattle.moves.specs.Settle.{settleAnswer, settlePositions, settleMap};
-ghost use Rattle.crossing.specs.Crossing.{valuePaper};
-ghost use Rattle.move_records.specs.Records.{movesOf, recordsAnswer};
-use crossing::ValueAnswer;
-use crossing::answers::of_amount;
-use move_records::MoveRecord;
-use move_records::by_kinds;
-use move_records::walk_records;
-use moves::call::first_plan;
-use moves::call::settle;
-use plan::Plan;
+ghost use Rattle.move_lists.specs.Apply.{applyPositions, applyMap};
+ghost use Rattle.move_plan.specs.Plan.{Fair};
+ghost use Rattle.move_lists.specs.Settle.{settleAnswer, settlePositions, settleMap};
+ghost use Rattle.c_answers.specs.Crossing.{valuePaper};
+ghost use Rattle.c_moves.specs.Records.{movesOf, recordsAnswer};
+use c_answers::ValueAnswer;
+use c_answers::answers::of_amount;
+use c_moves::MoveRecord;
+use c_moves::by_kinds;
+use c_moves::walk_records;
+use mesh::limits::Vertex;
+use move_lists::call::first_plan;
+use move_lists::call::settle;
+use move_plan::Plan;
 
 // What is done with the plan of a list.
 fn settle_records(
     plan: Plan,
     moves: usize,
     valences: &[u16],
-    rings: &[u16],
+    rings: &[Vertex],
     positions: &mut [i32],
     map: &mut [u32],
     levels: usize,
 ) -> ValueAnswer
     requires { ⌜ Fair plan ⌝ }
-    ensures { λ r. ⌜ (valuePaper r ≡ paperAmount (settleAnswer plan moves levels (now (valences .entry)) (now (rings .entry)) (now (positions .entry)) (now (map .entry))))
-        × (now (positions .exit) ≡ settlePositions plan moves levels (now (valences .entry)) (now (rings .entry)) (now (positions .entry)) (now (map .entry)))
-        × (now (map .exit) ≡ settleMap plan moves levels (now (valences .entry)) (now (rings .entry)) (now (positions .entry)) (now (map .entry))) ⌝ }
+    ensures { λ r. ⌜ (valuePaper r ≡ paperAmount (settleAnswer plan moves levels (lent (now (valences .entry)) (now (rings .entry))) (now (positions .entry)) (now (map .entry))))
+        × (now (positions .exit) ≡ settlePositions plan moves levels (lent (now (valences .entry)) (now (rings .entry))) (now (positions .entry)) (now (map .entry)))
+        × (now (map .exit) ≡ settleMap plan moves levels (lent (now (valences .entry)) (now (rings .entry))) (now (positions .entry)) (now (map .entry))) ⌝ }
 {
     of_amount(settle(plan, moves, valences, rings, positions, map, levels))
 }
@@ -38,16 +40,16 @@ fn settle_records(
 #[no_mangle]
 pub extern "C" fn gt_moves(
     valences: &[u16],
-    rings: &[u16],
+    rings: &[Vertex],
     positions: &mut [i32],
     map: &mut [u32],
     count: usize,
     levels: usize,
     list: &[MoveRecord],
 ) -> ValueAnswer
-    ensures { λ r. ⌜ (valuePaper r ≡ recordsAnswer count levels (now (valences .entry)) (now (rings .entry)) (now (positions .entry)) (now (map .entry)) (now (list .entry)))
-        × (now (positions .exit) ≡ applyPositions count levels (now (valences .entry)) (now (rings .entry)) (now (positions .entry)) (now (map .entry)) (movesOf (now (list .entry))))
-        × (now (map .exit) ≡ applyMap count levels (now (valences .entry)) (now (rings .entry)) (now (positions .entry)) (now (map .entry)) (movesOf (now (list .entry)))) ⌝ }
+    ensures { λ r. ⌜ (valuePaper r ≡ recordsAnswer count levels (lent (now (valences .entry)) (now (rings .entry))) (now (positions .entry)) (now (map .entry)) (now (list .entry)))
+        × (now (positions .exit) ≡ applyPositions count levels (lent (now (valences .entry)) (now (rings .entry))) (now (positions .entry)) (now (map .entry)) (movesOf (now (list .entry))))
+        × (now (map .exit) ≡ applyMap count levels (lent (now (valences .entry)) (now (rings .entry))) (now (positions .entry)) (now (map .entry)) (movesOf (now (list .entry)))) ⌝ }
 {
     by_kinds(
         list,

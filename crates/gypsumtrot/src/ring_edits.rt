@@ -1,11 +1,13 @@
 // The edits of a vertex's ring.
 ghost use mathlib.Core.Path.{_≡_};
+ghost use Rattle.rings.specs.Table.{lent};
 ghost use Rattle.rings.specs.Paper.{paperVerdict};
 ghost use Rattle.ring_edit.specs.Calls.{makeEdit, eraseEdit, replaceEdit, insertAfterEdit, insertBeforeEdit};
 ghost use Rattle.ring_row.specs.Edit.{valencesAfter, ringsAfter};
-ghost use Rattle.crossing.specs.Crossing.{valuePaper};
-use crossing::ValueAnswer;
-use crossing::answers::of_verdict;
+ghost use Rattle.c_answers.specs.Crossing.{valuePaper};
+use c_answers::ValueAnswer;
+use c_answers::answers::of_verdict;
+use mesh::limits::Vertex;
 use ring_edit::edits::erase;
 use ring_edit::edits::insert_after;
 use ring_edit::edits::insert_before;
@@ -16,14 +18,14 @@ use ring_edit::edits::replace;
 #[no_mangle]
 pub extern "C" fn gt_make(
     valences: &mut [u16],
-    rings: &mut [u16],
+    rings: &mut [Vertex],
     count: usize,
     v: usize,
-    list: &[u16],
+    list: &[Vertex],
 ) -> ValueAnswer
-    ensures { λ r. ⌜ valuePaper r ≡ paperVerdict (makeEdit count (now (valences .entry)) (now (rings .entry)) v (now (list .entry)) .verdict) ⌝ }
-    ensures { λ _. ⌜ now (valences .exit) ≡ valencesAfter (makeEdit count (now (valences .entry)) (now (rings .entry)) v (now (list .entry))) (now (valences .entry)) v ⌝ }
-    ensures { λ _. ⌜ now (rings .exit) ≡ ringsAfter (makeEdit count (now (valences .entry)) (now (rings .entry)) v (now (list .entry))) (now (rings .entry)) v ⌝ }
+    ensures { λ r. ⌜ valuePaper r ≡ paperVerdict (makeEdit count (lent (now (valences .entry)) (now (rings .entry))) v (now (list .entry)) .verdict) ⌝ }
+    ensures { λ _. ⌜ now (valences .exit) ≡ valencesAfter (makeEdit count (lent (now (valences .entry)) (now (rings .entry))) v (now (list .entry))) (now (valences .entry)) v ⌝ }
+    ensures { λ _. ⌜ now (rings .exit) ≡ ringsAfter (makeEdit count (lent (now (valences .entry)) (now (rings .entry))) v (now (list .entry))) (now (rings .entry)) v ⌝ }
 {
     of_verdict(make(valences, rings, count, v, list))
 }
@@ -32,14 +34,14 @@ pub extern "C" fn gt_make(
 #[no_mangle]
 pub extern "C" fn gt_erase(
     valences: &mut [u16],
-    rings: &mut [u16],
+    rings: &mut [Vertex],
     count: usize,
     v: usize,
     x: usize,
 ) -> ValueAnswer
-    ensures { λ r. ⌜ valuePaper r ≡ paperVerdict (eraseEdit count (now (valences .entry)) (now (rings .entry)) v x .verdict) ⌝ }
-    ensures { λ _. ⌜ now (valences .exit) ≡ valencesAfter (eraseEdit count (now (valences .entry)) (now (rings .entry)) v x) (now (valences .entry)) v ⌝ }
-    ensures { λ _. ⌜ now (rings .exit) ≡ ringsAfter (eraseEdit count (now (valences .entry)) (now (rings .entry)) v x) (now (rings .entry)) v ⌝ }
+    ensures { λ r. ⌜ valuePaper r ≡ paperVerdict (eraseEdit count (lent (now (valences .entry)) (now (rings .entry))) v x .verdict) ⌝ }
+    ensures { λ _. ⌜ now (valences .exit) ≡ valencesAfter (eraseEdit count (lent (now (valences .entry)) (now (rings .entry))) v x) (now (valences .entry)) v ⌝ }
+    ensures { λ _. ⌜ now (rings .exit) ≡ ringsAfter (eraseEdit count (lent (now (valences .entry)) (now (rings .entry))) v x) (now (rings .entry)) v ⌝ }
 {
     of_verdict(erase(valences, rings, count, v, x))
 }
@@ -48,15 +50,15 @@ pub extern "C" fn gt_erase(
 #[no_mangle]
 pub extern "C" fn gt_replace(
     valences: &mut [u16],
-    rings: &mut [u16],
+    rings: &mut [Vertex],
     count: usize,
     v: usize,
     a: usize,
     x: usize,
 ) -> ValueAnswer
-    ensures { λ r. ⌜ valuePaper r ≡ paperVerdict (replaceEdit count (now (valences .entry)) (now (rings .entry)) v a x .verdict) ⌝ }
-    ensures { λ _. ⌜ now (valences .exit) ≡ valencesAfter (replaceEdit count (now (valences .entry)) (now (rings .entry)) v a x) (now (valences .entry)) v ⌝ }
-    ensures { λ _. ⌜ now (rings .exit) ≡ ringsAfter (replaceEdit count (now (valences .entry)) (now (rings .entry)) v a x) (now (rings .entry)) v ⌝ }
+    ensures { λ r. ⌜ valuePaper r ≡ paperVerdict (replaceEdit count (lent (now (valences .entry)) (now (rings .entry))) v a x .verdict) ⌝ }
+    ensures { λ _. ⌜ now (valences .exit) ≡ valencesAfter (replaceEdit count (lent (now (valences .entry)) (now (rings .entry))) v a x) (now (valences .entry)) v ⌝ }
+    ensures { λ _. ⌜ now (rings .exit) ≡ ringsAfter (replaceEdit count (lent (now (valences .entry)) (now (rings .entry))) v a x) (now (rings .entry)) v ⌝ }
 {
     of_verdict(replace(valences, rings, count, v, a, x))
 }
@@ -65,15 +67,15 @@ pub extern "C" fn gt_replace(
 #[no_mangle]
 pub extern "C" fn gt_insert_after(
     valences: &mut [u16],
-    rings: &mut [u16],
+    rings: &mut [Vertex],
     count: usize,
     v: usize,
     a: usize,
     x: usize,
 ) -> ValueAnswer
-    ensures { λ r. ⌜ valuePaper r ≡ paperVerdict (insertAfterEdit count (now (valences .entry)) (now (rings .entry)) v a x .verdict) ⌝ }
-    ensures { λ _. ⌜ now (valences .exit) ≡ valencesAfter (insertAfterEdit count (now (valences .entry)) (now (rings .entry)) v a x) (now (valences .entry)) v ⌝ }
-    ensures { λ _. ⌜ now (rings .exit) ≡ ringsAfter (insertAfterEdit count (now (valences .entry)) (now (rings .entry)) v a x) (now (rings .entry)) v ⌝ }
+    ensures { λ r. ⌜ valuePaper r ≡ paperVerdict (insertAfterEdit count (lent (now (valences .entry)) (now (rings .entry))) v a x .verdict) ⌝ }
+    ensures { λ _. ⌜ now (valences .exit) ≡ valencesAfter (insertAfterEdit count (lent (now (valences .entry)) (now (rings .entry))) v a x) (now (valences .entry)) v ⌝ }
+    ensures { λ _. ⌜ now (rings .exit) ≡ ringsAfter (insertAfterEdit count (lent (now (valences .entry)) (now (rings .entry))) v a x) (now (rings .entry)) v ⌝ }
 {
     of_verdict(insert_after(valences, rings, count, v, a, x))
 }
@@ -82,15 +84,15 @@ pub extern "C" fn gt_insert_after(
 #[no_mangle]
 pub extern "C" fn gt_insert_before(
     valences: &mut [u16],
-    rings: &mut [u16],
+    rings: &mut [Vertex],
     count: usize,
     v: usize,
     a: usize,
     x: usize,
 ) -> ValueAnswer
-    ensures { λ r. ⌜ valuePaper r ≡ paperVerdict (insertBeforeEdit count (now (valences .entry)) (now (rings .entry)) v a x .verdict) ⌝ }
-    ensures { λ _. ⌜ now (valences .exit) ≡ valencesAfter (insertBeforeEdit count (now (valences .entry)) (now (rings .entry)) v a x) (now (valences .entry)) v ⌝ }
-    ensures { λ _. ⌜ now (rings .exit) ≡ ringsAfter (insertBeforeEdit count (now (valences .entry)) (now (rings .entry)) v a x) (now (rings .entry)) v ⌝ }
+    ensures { λ r. ⌜ valuePaper r ≡ paperVerdict (insertBeforeEdit count (lent (now (valences .entry)) (now (rings .entry))) v a x .verdict) ⌝ }
+    ensures { λ _. ⌜ now (valences .exit) ≡ valencesAfter (insertBeforeEdit count (lent (now (valences .entry)) (now (rings .entry))) v a x) (now (valences .entry)) v ⌝ }
+    ensures { λ _. ⌜ now (rings .exit) ≡ ringsAfter (insertBeforeEdit count (lent (now (valences .entry)) (now (rings .entry))) v a x) (now (rings .entry)) v ⌝ }
 {
     of_verdict(insert_before(valences, rings, count, v, a, x))
 }

@@ -1,13 +1,15 @@
 // The queries of a vertex's ring.
 ghost use mathlib.Core.Path.{_≡_};
+ghost use Rattle.rings.specs.Table.{lent};
 ghost use Rattle.rings.specs.Paper.{paperAmount};
 ghost use Rattle.ring_query.specs.Paper.{paperAnswer, paperNeighbour};
 ghost use Rattle.ring_query.specs.Queries.{valenceAnswer, containsAnswer, nextAnswer, prevAnswer};
-ghost use Rattle.crossing.specs.Crossing.{valuePaper};
-use crossing::ValueAnswer;
-use crossing::answers::of_amount;
-use crossing::answers::of_answer;
-use crossing::answers::of_neighbour;
+ghost use Rattle.c_answers.specs.Crossing.{valuePaper};
+use c_answers::ValueAnswer;
+use c_answers::answers::of_amount;
+use c_answers::answers::of_answer;
+use c_answers::answers::of_neighbour;
+use mesh::limits::Vertex;
 use ring_query::queries::contains;
 use ring_query::queries::next;
 use ring_query::queries::prev;
@@ -15,8 +17,13 @@ use ring_query::queries::valence;
 
 // The valence of v.
 #[no_mangle]
-pub extern "C" fn gt_valence(valences: &[u16], rings: &[u16], count: usize, v: usize) -> ValueAnswer
-    ensures { λ r. ⌜ valuePaper r ≡ paperAmount (valenceAnswer count (now (valences .entry)) (now (rings .entry)) v) ⌝ }
+pub extern "C" fn gt_valence(
+    valences: &[u16],
+    rings: &[Vertex],
+    count: usize,
+    v: usize,
+) -> ValueAnswer
+    ensures { λ r. ⌜ valuePaper r ≡ paperAmount (valenceAnswer count (lent (now (valences .entry)) (now (rings .entry))) v) ⌝ }
 {
     of_amount(valence(valences, rings, count, v))
 }
@@ -25,12 +32,12 @@ pub extern "C" fn gt_valence(valences: &[u16], rings: &[u16], count: usize, v: u
 #[no_mangle]
 pub extern "C" fn gt_contains(
     valences: &[u16],
-    rings: &[u16],
+    rings: &[Vertex],
     count: usize,
     v: usize,
     x: usize,
 ) -> ValueAnswer
-    ensures { λ r. ⌜ valuePaper r ≡ paperAnswer (containsAnswer count (now (valences .entry)) (now (rings .entry)) v x) ⌝ }
+    ensures { λ r. ⌜ valuePaper r ≡ paperAnswer (containsAnswer count (lent (now (valences .entry)) (now (rings .entry))) v x) ⌝ }
 {
     of_answer(contains(valences, rings, count, v, x))
 }
@@ -39,12 +46,12 @@ pub extern "C" fn gt_contains(
 #[no_mangle]
 pub extern "C" fn gt_next(
     valences: &[u16],
-    rings: &[u16],
+    rings: &[Vertex],
     count: usize,
     v: usize,
     x: usize,
 ) -> ValueAnswer
-    ensures { λ r. ⌜ valuePaper r ≡ paperNeighbour (nextAnswer count (now (valences .entry)) (now (rings .entry)) v x) ⌝ }
+    ensures { λ r. ⌜ valuePaper r ≡ paperNeighbour (nextAnswer count (lent (now (valences .entry)) (now (rings .entry))) v x) ⌝ }
 {
     of_neighbour(next(valences, rings, count, v, x))
 }
@@ -53,12 +60,12 @@ pub extern "C" fn gt_next(
 #[no_mangle]
 pub extern "C" fn gt_prev(
     valences: &[u16],
-    rings: &[u16],
+    rings: &[Vertex],
     count: usize,
     v: usize,
     x: usize,
 ) -> ValueAnswer
-    ensures { λ r. ⌜ valuePaper r ≡ paperNeighbour (prevAnswer count (now (valences .entry)) (now (rings .entry)) v x) ⌝ }
+    ensures { λ r. ⌜ valuePaper r ≡ paperNeighbour (prevAnswer count (lent (now (valences .entry)) (now (rings .entry))) v x) ⌝ }
 {
     of_neighbour(prev(valences, rings, count, v, x))
 }

@@ -5,8 +5,8 @@ use mathlib.Core.List.{List}
 use native.Mathlib.Nat.{add-zero}
 use native.Mathlib.Omega.{arith}
 use lib.ListN.{length, getD, set, length-set}
-use Rattle.meshfile.specs.Blocks.{Put}
-use Rattle.meshfile.proofs.Blocks.{put-one, then}
+use Rattle.file_format.specs.Blocks.{Put}
+use Rattle.file_format.proofs.Blocks.{put-one, then}
 use Rattle.numerals.specs.Wrote.{Wrote}
 use Rattle.numerals.specs.Numerals.{blank, newline, number, signed}
 use Rattle.numerals.proofs.Writing.{wrote-is, wrote-then}

@@ -1,9 +1,10 @@
+-- To be believed.
 -- Lines as bytes (document 01, the listing): single blanks between their numbers, a newline at each line's end.
 -- Assumes nothing.
 use mathlib.Core.List.{List, [], _∷_, _++_}
 use Prim.Native.Nat.{ℕ, _+_}
-use lib.IntN.{ℤ}
 use lib.ListN.{getD}
+use lib.IntN.{ℤ}
 use Rattle.rings.specs.Table.{coordinateAt}
 use Rattle.rings.specs.declared.Refusal.{Refusal}
 use Rattle.rings.specs.Refusal.{numberOf, placeOf}

@@ -3,7 +3,7 @@ ghost use mathlib.Core.List.{_++_};
 ghost use Prim.Native.Nat.{_+_, _*_, _<_, _≤_};
 ghost use lib.ListN.{length};
 ghost use Rattle.rings.specs.Table.{gather};
-ghost use Rattle.meshfile.specs.Blocks.{Put};
+ghost use Rattle.file_format.specs.Blocks.{Put};
 ghost use Rattle.listing_lines.specs.Lines.{word, countsLine, vertexLine, refusedLine};
 ghost use Rattle.numerals.specs.Wrote.{Wrote};
 use numerals::BLANK;

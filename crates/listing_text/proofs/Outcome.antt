@@ -7,8 +7,9 @@ use borrow.Author.Tests.{lt-ltb, le-ltb}
 use lib.IntN.{ℤ, pos}
 use lib.ListN.{length, replicate}
 use Rattle.mesh.specs.Mesh.{edges, faces}
-use Rattle.mesh.specs.Refine.{level}
-use Rattle.rings.specs.Table.{rows, gather, put}
+use Rattle.steps.specs.Sizes.{Sizes, sizesOf}
+use Rattle.loop_step.specs.Refine.{level}
+use Rattle.rings.specs.Table.{Lent, lent, rows, gather, put}
 use Rattle.rings.specs.Verdict.{withCounts}
 use Rattle.rings.specs.declared.Refusal.{Refusal}
 use Rattle.rings.specs.declared.Refusal.the-variants.{NoRoom}
@@ -22,33 +23,33 @@ use Rattle.rings.specs.declared.Counted.the-variants as counted
 use Rattle.rings.specs.declared.Counted.the-variants.{Counts}
 use Rattle.stack_judge.specs.Stack.{stackCount}
 use Rattle.stack_judge.specs.StackVerdict.{stackVerdict}
-use Rattle.refine.specs.Refinement.{refineAnswer}
 use Rattle.stack_judge.proofs.AcceptedStack.{stack-only}
 use Rattle.stack_judge.proofs.Sizes.{level-count, start-none, start-suc}
+use Rattle.stack_refine.specs.Refinement.{refineAnswer}
 use Rattle.file_reading.specs.Read.{readAnswer, readValences, readRings, readPositions}
 use Rattle.numerals.specs.Wrote.{Wrote}
 use Rattle.listing_lines.specs.Lines.{countsLine, vertexLine, refusedLine}
 use Rattle.listing_text.specs.Listing.{levelText, refinedText, meshText, fileText, listingText}
 
 -- a stack of one level has the control vertices and those of level 1
-one-level : (n e : ℕ) → stackCount n e 1 ≡ n + (n + e)
+one-level : (s : Sizes) → stackCount s 1 ≡ s .vertices + (s .vertices + s .edges)
 unfolding stackCount
-one-level n e = omega (arith, start-none n e, start-suc n e 0, start-suc n e 1)
+one-level s = omega (arith, start-none s, start-suc s 0, start-suc s 1)
 
-module _ (n : ℕ) (vs rs : List ℕ) (ps : List ℤ) (v e f : ℕ) where
+module _ (n : ℕ) (t : Lent) (ps : List ℤ) (v e f : ℕ) where
   -- level 1 stands in the tables where refinement answers its counts
-  pub level-fits : Counts v e f ≡ refineAnswer n 1 vs rs ps → (n + v ≤ length vs) × ((n + v) * 3 ≤ length ps)
+  pub level-fits : Counts v e f ≡ refineAnswer n 1 t ps → (n + v ≤ length (t .valences)) × ((n + v) * 3 ≤ length ps)
   unfolding refineAnswer withCounts rows
-  level-fits h = go (stackVerdict n 1 vs rs ps) refl h
+  level-fits h = go (stackVerdict n 1 t ps) refl h
     where
-      go : (w : Verdict) → stackVerdict n 1 vs rs ps ≡ w → Counts v e f ≡ withCounts w (level (rows n vs rs) 1 .count) (edges (level (rows n vs rs) 1)) (faces (level (rows n vs rs) 1))
-          → (n + v ≤ length vs) × ((n + v) * 3 ≤ length ps)
+      go : (w : Verdict) → stackVerdict n 1 t ps ≡ w → Counts v e f ≡ withCounts w (level (rows n t) 1 .count) (edges (level (rows n t) 1)) (faces (level (rows n t) 1))
+          → (n + v ≤ length (t .valences)) × ((n + v) * 3 ≤ length ps)
       go Accepted g h =
-          let a = stack-only n 1 vs rs ps g in
-          let c : v ≡ level (rows n vs rs) 1 .count = cc in
-          let m : rows n vs rs .count ≡ n = refl in
-          let d = level-count (rows n vs rs) (a .control .sound) 1 in
-          let s = one-level n (edges (rows n vs rs)) in
+          let a = stack-only n 1 t ps g in
+          let c : v ≡ level (rows n t) 1 .count = cc in
+          let m : rows n t .count ≡ n = refl in
+          let d = level-count (rows n t) (a .control .sound) 1 in
+          let s = one-level (sizesOf n (rows n t)) in
           (omega (arith, a .room .valences), omega (arith, a .points))
       go (Refused r) g h = let z : _≡_ {A = ℕ} 0 1 = cc in absurd (omega arith)
 
@@ -65,27 +66,27 @@ unfolding levelText
 level-counted n {vs₁} {vs} {ps₁} {ps} v e f a b g h =
     ap (λ (l : List ℕ). levelText n l ps₁ (Counts v e f)) g ∙ ap (λ (l : List ℤ). levelText n vs l (Counts v e f)) h ∙ ap (levelText n vs ps) (sym a ∙ b)
 
-module _ (s vs rs : List ℕ) (ps : List ℤ) where
+module _ (s : List ℕ) (t : Lent) (ps : List ℤ) where
   -- reading is refused, or answers V and leaves these tables
-  pub read-refused : {x : Amount} {r : Refusal} → x ≡ amount.Refused r → x ≡ readAnswer s vs rs ps → refusedLine r ≡ fileText s vs rs ps
+  pub read-refused : {x : Amount} {r : Refusal} → x ≡ amount.Refused r → x ≡ readAnswer s t ps → refusedLine r ≡ fileText s t ps
   unfolding fileText meshText
-  read-refused e f = ap (meshText (readValences s vs rs ps) (readRings s vs rs ps) (readPositions s vs rs ps)) (sym e ∙ f)
+  read-refused e f = ap (meshText (lent (readValences s t ps) (readRings s t ps)) (readPositions s t ps)) (sym e ∙ f)
 
-  pub read-counted : {x : Amount} (n : ℕ) (vs₁ rs₁ : List ℕ) (ps₁ : List ℤ) → x ≡ Of n → x ≡ readAnswer s vs rs ps → vs₁ ≡ readValences s vs rs ps → rs₁ ≡ readRings s vs rs ps → ps₁ ≡ readPositions s vs rs ps
-      → refinedText n vs₁ rs₁ ps₁ ≡ fileText s vs rs ps
+  pub read-counted : {x : Amount} (n : ℕ) (t₁ : Lent) (ps₁ : List ℤ) → x ≡ Of n → x ≡ readAnswer s t ps → t₁ .valences ≡ readValences s t ps → t₁ .rings ≡ readRings s t ps → ps₁ ≡ readPositions s t ps
+      → refinedText n t₁ ps₁ ≡ fileText s t ps
   unfolding fileText meshText
-  read-counted n vs₁ rs₁ ps₁ e f a b g =
-      ap (λ (l : List ℕ). meshText l rs₁ ps₁ (Of n)) a
-      ∙ ap (λ (l : List ℕ). meshText (readValences s vs rs ps) l ps₁ (Of n)) b
-      ∙ ap (λ (l : List ℤ). meshText (readValences s vs rs ps) (readRings s vs rs ps) l (Of n)) g
-      ∙ ap (meshText (readValences s vs rs ps) (readRings s vs rs ps) (readPositions s vs rs ps)) (sym e ∙ f)
+  read-counted n t₁ ps₁ e f a b g =
+      ap (λ (l : List ℕ). meshText (lent l (t₁ .rings)) ps₁ (Of n)) a
+      ∙ ap (λ (l : List ℕ). meshText (lent (readValences s t ps) l) ps₁ (Of n)) b
+      ∙ ap (λ (l : List ℤ). meshText (lent (readValences s t ps) (readRings s t ps)) l (Of n)) g
+      ∙ ap (meshText (lent (readValences s t ps) (readRings s t ps)) (readPositions s t ps)) (sym e ∙ f)
 
 -- the input is too long, or not
 pub listing-long : (s : List ℕ) → 16384 < length s → refusedLine NoRoom ≡ listingText s
 unfolding listingText
 listing-long s h = rw (lt-ltb 16384 (length s) h)
 
-pub listing-read : (s : List ℕ) → length s ≤ 16384 → fileText s (replicate 256 0) (replicate 8192 0) (replicate 768 (pos 0)) ≡ listingText s
+pub listing-read : (s : List ℕ) → length s ≤ 16384 → fileText s (lent (replicate 256 0) (replicate 8192 0)) (replicate 768 (pos 0)) ≡ listingText s
 unfolding listingText
 listing-read s h = rw (le-ltb 16384 (length s) h)
 

@@ -1,21 +1,19 @@
--- The edges of a mesh whose rings are proper and mutual: how m(u,v) numbers them, and how many there are.
+-- The edges of a mesh whose rings are proper and mutual: those of p by their greater ends, and how many there are.
 -- Assumes nothing.
 use mathlib.Core.Path.{_≡_, refl, sym, ap, _∙_, subst}
 use mathlib.Core.List.{List, [], _∷_}
 use mathlib.Core.Logic.{⊎-elim, _≢_}
-use Prim.Native.Nat.{ℕ, _+_, _-_, _*_, _/_, _≤_, _<_, min, max}
-use native.Mathlib.Nat.{min-comm, max-comm, min-eq-left, min-eq-right, max-eq-left, max-eq-right, mul-div-cancel-left}
+use Prim.Native.Nat.{ℕ, _+_, _-_, _*_, _/_, _≤_, _<_}
+use native.Mathlib.Nat.{mul-div-cancel-left}
 use native.Mathlib.Omega.{arith}
 use lib.Dec.{lit<}
 use lib.ListN.{length}
 use borrow.Author.Tests.{ne-eqb}
 use Rattle.mesh.specs.Search.{sum}
 use Rattle.mesh.specs.Ring.{times, _∈_, Distinct}
-use Rattle.mesh.specs.Mesh.{Mesh, Proper, edges, valences}
-use Rattle.mesh.specs.Numbering.{start, rowOf, entryOf}
-use Rattle.mesh.specs.Refine.{over, up, mid, lowEnd, highEnd}
+use Rattle.mesh.specs.Mesh.{Mesh, Proper, edges, valences, over, up}
+use Rattle.mesh.specs.Numbering.{start}
 use Rattle.mesh.proofs.Lists.{lt-split, sum-same, sum-add, sum-swap, sum-times}
-use Rattle.mesh.proofs.Numbers.{number-range, number-inj, number-onto, number-later-row, number-later-entry}
 
 -- which entries are among those over p
 pub over-in : (q p : ℕ) (l : List ℕ) → p < q → times q (over p l) ≡ times q l
@@ -40,14 +38,14 @@ pairs M = start (up M) (M .count)
 
 -- the rings are proper and mutual
 module _ (M : Mesh) (proper : (v : ℕ) → v < M .count → Proper M v) (mut : (v u : ℕ) → v < M .count → u ∈ M .ring v → v ∈ M .ring u) where
-  ring-lt : (v u : ℕ) → v < M .count → u ∈ M .ring v → u < M .count
+  pub ring-lt : (v u : ℕ) → v < M .count → u ∈ M .ring v → u < M .count
   ring-lt v u h m = proper v h .known u m
 
-  ring-ne : (v u : ℕ) → v < M .count → u ∈ M .ring v → u ≢ v
+  pub ring-ne : (v u : ℕ) → v < M .count → u ∈ M .ring v → u ≢ v
   ring-ne v u h m e = proper v h .other (subst (λ x. x ∈ M .ring v) e m)
 
   -- up p has the q of the edges p < q
-  up-ring : (p q : ℕ) → q ∈ up M p → (p < q) × (q ∈ M .ring p)
+  pub up-ring : (p q : ℕ) → q ∈ up M p → (p < q) × (q ∈ M .ring p)
   unfolding up
   up-ring p q m =
       ⊎-elim
@@ -55,86 +53,20 @@ module _ (M : Mesh) (proper : (v : ℕ) → v < M .count → Proper M v) (mut : 
       (λ h. absurd (omega (arith, over-out q p (M .ring p) (h .1))))
       (lt-split p q)
 
-  ring-up : (p q : ℕ) → p < q → q ∈ M .ring p → q ∈ up M p
+  pub ring-up : (p q : ℕ) → p < q → q ∈ M .ring p → q ∈ up M p
   unfolding up
   ring-up p q h m = omega (arith, over-in q p (M .ring p) h)
 
   pub up-lt : (p : ℕ) → p < M .count → (q : ℕ) → q ∈ up M p → q < M .count
   up-lt p h q m = ring-lt p q h (up-ring p q m .1)
 
-  up-once : (p : ℕ) → p < M .count → Distinct (up M p)
+  pub up-once : (p : ℕ) → p < M .count → Distinct (up M p)
   unfolding up
   up-once p h q =
       ⊎-elim
       (λ g. omega (arith, over-in q p (M .ring p) (g .1), proper p h .distinct q))
       (λ g. omega (arith, over-out q p (M .ring p) (g .1)))
       (lt-split p q)
-
-  -- the two ends-pairs of an edge in order
-  in-order : (v u : ℕ) → v < M .count → u ∈ M .ring v → (min v u < M .count) × (max v u ∈ up M (min v u))
-  in-order v u h m =
-      ⊎-elim
-      (λ g. rw (min-eq-left {n = v} {m = u} (omega arith), max-eq-right {n = v} {m = u} (omega arith)) (h, ring-up v u (g .1) m))
-      (λ g.
-      rw (min-eq-right {n = u} {m = v} (g .1), max-eq-left {n = v} {m = u} (g .1))
-      (ring-lt v u h m, ring-up u v (omega (arith, ring-ne v u h m)) (mut v u h m)))
-      (lt-split v u)
-
-  pub mid-sym : (u v : ℕ) → mid M u v ≡ mid M v u
-  unfolding mid
-  mid-sym u v = rw (min-comm u v, max-comm u v)
-
-  mid-range-pairs : (v u : ℕ) → v < M .count → u ∈ M .ring v → (M .count ≤ mid M v u) × (mid M v u < M .count + pairs M)
-  unfolding mid pairs
-  mid-range-pairs v u h m =
-      let o = in-order v u h m in
-      (omega arith, omega (arith, number-range (up M) (M .count) (M .count) up-lt up-once (min v u) (max v u) (o .0) (o .1)))
-
-  -- one new vertex, one edge
-  pub mid-inj : (v u v′ u′ : ℕ) → v < M .count → u ∈ M .ring v → v′ < M .count → u′ ∈ M .ring v′ → mid M v u ≡ mid M v′ u′ → (min v u ≡ min v′ u′) × (max v u ≡ max v′ u′)
-  unfolding mid
-  mid-inj v u v′ u′ h m h′ m′ e =
-      let o = in-order v u h m in
-      let o′ = in-order v′ u′ h′ m′ in
-      number-inj (up M) (M .count) (M .count) up-lt up-once (min v u) (max v u) (min v′ u′) (max v′ u′) (o .0) (o .1) (o′ .0) (o′ .1) (omega arith)
-
-  -- by the lesser end, then by the greater, ascending
-  pub mid-later-p : (p q p′ q′ : ℕ) → p < M .count → q ∈ M .ring p → p < q → p < p′ → p′ < q′ → mid M p q < mid M p′ q′
-  unfolding mid
-  mid-later-p p q p′ q′ h m l k l′ =
-      rw (min-eq-left {n = p} {m = q} (omega arith), max-eq-right {n = p} {m = q} (omega arith), min-eq-left {n = p′} {m = q′} (omega arith), max-eq-right {n = p′} {m = q′} (omega arith))
-      (omega (arith, number-later-row (up M) (M .count) (M .count) up-lt up-once p q p′ q′ h (ring-up p q l m) k))
-
-  pub mid-later-q : (p q q′ : ℕ) → p < M .count → q ∈ M .ring p → p < q → q < q′ → mid M p q < mid M p q′
-  unfolding mid
-  mid-later-q p q q′ h m l k =
-      rw (min-eq-left {n = p} {m = q} (omega arith), max-eq-right {n = p} {m = q} (omega arith), min-eq-left {n = p} {m = q′} (omega arith), max-eq-right {n = p} {m = q′} (omega arith))
-      (omega (arith, number-later-entry (up M) (M .count) (M .count) up-lt up-once p q q′ (ring-up p q l m) k))
-
-  -- each new vertex has its edge
-  ends-pairs : (x : ℕ) → M .count ≤ x → x < M .count + pairs M
-      → (lowEnd M x < highEnd M x) × (highEnd M x < M .count) × (highEnd M x ∈ M .ring (lowEnd M x)) × (mid M (lowEnd M x) (highEnd M x) ≡ x)
-  unfolding mid pairs lowEnd highEnd
-  ends-pairs x h g =
-      let r = number-onto (up M) (M .count) (M .count) up-lt up-once (x - M .count) (omega arith) in
-      let p : ℕ = rowOf (up M) (M .count) (x - M .count) in
-      let q : ℕ = entryOf (up M) (M .count) (M .count) (x - M .count) in
-      let s = up-ring p q (r .1) in (
-        s .0,
-        up-lt p (r .0) q (r .1),
-        s .1,
-        rw (min-eq-left {n = p} {m = q} (omega arith), max-eq-right {n = p} {m = q} (omega arith)) (omega arith),
-      )
-
-  -- and only that one
-  pub ends-of : (p q : ℕ) → p < q → p < M .count → q ∈ M .ring p → (lowEnd M (mid M p q) ≡ p) × (highEnd M (mid M p q) ≡ q)
-  ends-of p q l h m =
-      let r = mid-range-pairs p q h m in
-      let e = ends-pairs (mid M p q) (r .0) (r .1) in
-      let i = mid-inj (lowEnd M (mid M p q)) (highEnd M (mid M p q)) p q (omega arith) (e .2) h m (e .3) in
-      omega arith
-
-  -- ---- handshake
 
   -- the rings as a table of zeros and ones, which is symmetric
   times-sym : (p q : ℕ) → p < M .count → q < M .count → times q (M .ring p) ≡ times p (M .ring q)
@@ -144,7 +76,7 @@ module _ (M : Mesh) (proper : (v : ℕ) → v < M .count → Proper M v) (mut : 
       (λ e. ⊎-elim (λ f. absurd (omega (arith, mut q p g (f .1)))) (λ f. omega arith) (lt-split 0 (times p (M .ring q))))
       (lt-split 0 (times q (M .ring p)))
 
-  -- each entry is counted at one of the two ends-pairs
+  -- each entry is counted at one of the two ends
   times-up : (p q : ℕ) → p < M .count → q < M .count → times q (M .ring p) ≡ times q (up M p) + times p (up M q)
   unfolding up
   times-up p q h g =
@@ -181,10 +113,3 @@ module _ (M : Mesh) (proper : (v : ℕ) → v < M .count → Proper M v) (mut : 
 
   pub handshake : valences M ≡ 2 * edges M
   handshake = omega (arith, handshake-pairs, edges-pairs)
-
-  pub mid-range : (v u : ℕ) → v < M .count → u ∈ M .ring v → (M .count ≤ mid M v u) × (mid M v u < M .count + edges M)
-  mid-range v u h m = rw edges-pairs (mid-range-pairs v u h m)
-
-  pub ends : (x : ℕ) → M .count ≤ x → x < M .count + edges M
-      → (lowEnd M x < highEnd M x) × (highEnd M x < M .count) × (highEnd M x ∈ M .ring (lowEnd M x)) × (mid M (lowEnd M x) (highEnd M x) ≡ x)
-  ends x h g = ends-pairs x h (rw edges-pairs at g)

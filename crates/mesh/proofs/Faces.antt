@@ -1,4 +1,4 @@
--- Faces of a sound mesh: three corners each, so 2E = 3F, and refined there are four times as many.
+-- Faces of a sound mesh: three corners each, so 2E = 3F.
 -- Assumes nothing.
 use mathlib.Core.Path.{_≡_, refl, sym, ap, _∙_, subst}
 use mathlib.Core.Bool.{Bool, true, false, cond}
@@ -12,11 +12,10 @@ use borrow.Author.Tests.{lt-ltb, le-ltb, eq-eqb}
 use Rattle.mesh.specs.Search.{sum}
 use Rattle.mesh.specs.Ring.{times, _∈_, next}
 use Rattle.mesh.specs.Mesh.{Mesh, Sound, edges, faces, valences}
-use Rattle.mesh.specs.Refine.{refine}
 use Rattle.mesh.proofs.Lists.{eq-split, lt-split, sum-same, sum-add, sum-swap, sum-times, sum-zero, sum-pick}
 use Rattle.mesh.proofs.Rings.{next-in}
 use Rattle.mesh.proofs.Edges.{handshake}
-use Rattle.mesh.proofs.Refined.{face-at, edge-ne, refine-edges, refine-count, refine-sound}
+use Rattle.mesh.proofs.SoundMeshes.{face-at, edge-ne}
 
 unfoldable pub sum₃ : (ℕ → ℕ → ℕ → ℕ) → ℕ → ℕ
 sum₃ f n = sum (λ v. sum (λ u. sum (λ w. f v u w) n) n) n
@@ -135,10 +134,3 @@ module _ (M : Mesh) (S : Sound M) where
 
   pub three-faces : 3 * faces M ≡ 2 * edges M
   three-faces = omega (arith, faces-triangles, twice-edges)
-
-pub refine-faces : (M : Mesh) (S : Sound M) → faces (refine M) ≡ 4 * faces M
-refine-faces M S = omega (arith, three-faces M S, three-faces (refine M) (refine-sound M S), refine-edges M S)
-
--- V - E + F stays, written without a difference
-pub euler : (M : Mesh) (S : Sound M) → (refine M .count + faces (refine M)) + edges M ≡ (M .count + faces M) + edges (refine M)
-euler M S = omega (arith, three-faces M S, refine-faces M S, refine-edges M S, refine-count M S)

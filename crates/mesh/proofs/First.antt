@@ -143,6 +143,43 @@ by-cases false h = refl
 pub none-some : (p : ℕ → Bool) (n : ℕ) → ((k : ℕ) → k < n → p k ≡ false) → some p n ≡ false
 none-some p n h = by-cases (some p n) (λ e. let k = some-at p n e in true-not-false (k .1) (h (first p n) (k .0)))
 
+-- one number that passes is enough
+pub some-true : (p : ℕ → Bool) (n i : ℕ) → i < n → p i ≡ true → some p n ≡ true
+some-true p n i h e = go (some p n) refl
+  where
+    go : (b : Bool) → some p n ≡ b → some p n ≡ true
+    go true k = k
+    go false k = absurd (true-not-false e (some-all p n k .below i h))
+
+-- one number more, and several that do not pass
+pub some-more : (p : ℕ → Bool) (n : ℕ) → some p (n + 1) ≡ some p n || p n
+some-more p n =
+    same-tests (some p (n + 1)) (some p n || p n)
+    (λ e.
+    let r = some-at p (n + 1) e in
+    let i : ℕ = first p (n + 1) in
+    ⊎-elim
+    (λ q. or-comm (some p n) (p n) ∙ ap (λ (b : Bool). b || some p n) (ap p (sym q) ∙ r .1))
+    (λ l. ap (λ (b : Bool). b || p n) (some-true p n i (omega arith) (r .1)))
+    (eq-or-lt-of-le (let k : i ≤ n = omega arith in k)))
+    (λ e. go (some p n) refl e)
+  where
+    go : (b : Bool) → some p n ≡ b → b || p n ≡ true → some p (n + 1) ≡ true
+    go true k e = let r = some-at p n k in some-true p (n + 1) (first p n) (omega arith) (r .1)
+    go false k e = some-true p (n + 1) n (omega arith) e
+
+pub some-skip : (p : ℕ → Bool) (n k : ℕ) → ((i : ℕ) → n ≤ i → i < n + k → p i ≡ false) → some p (n + k) ≡ some p n
+some-skip p n k none =
+    same-tests (some p (n + k)) (some p n)
+    (λ e.
+    let r = some-at p (n + k) e in
+    let i : ℕ = first p (n + k) in
+    some-true p n i (below i (λ l. true-not-false (r .1) (none i l (r .0)))) (r .1))
+    (λ e. let r = some-at p n e in some-true p (n + k) (first p n) (omega arith) (r .1))
+  where
+    below : (i : ℕ) → (n ≤ i → ⊥) → i < n
+    below i h = omega arith
+
 -- tests that agree below n find the same number first
 pub first-same : (p q : ℕ → Bool) (n : ℕ) → ((k : ℕ) → k < n → p k ≡ q k) → first p n ≡ first q n
 first-same p q n same =

@@ -1,14 +1,5 @@
 -- The theory of meshes. First the theorems a reader wants, each in a file that states it at the top; then the laws on the definitions of specs/ that they rest on.
 pub mod TestsPassWhenSound
-pub mod RefinementKeepsSoundness
-pub mod RefreshIsRefinement
-pub mod PointsStayInHull
-pub mod EdgeNumbers
-pub mod RefinedRows
-pub mod LoopMasks
-pub mod TouchedPoints
-pub mod RoundsToNearest
-pub mod HalvesGoToEven
 pub mod RingsGoRound
 pub mod RingsAfterEdits
 -- laws
@@ -17,19 +8,12 @@ pub mod First
 pub mod Numbers
 pub mod Rings
 pub mod Edges
-pub mod Refined
+pub mod SoundMeshes
 pub mod Faces
-pub mod Refresh
-pub mod Levels
-pub mod Ints
-pub mod Rounding
-pub mod Means
 pub mod Places
 pub mod Checked
 pub mod Ranks
 pub mod Overs
-pub mod Lifted
-pub mod Hull
 pub mod EditPlaces
 pub mod EditedEntries
 pub mod OpenedRings

@@ -2,7 +2,7 @@
 -- Assumes nothing.
 use mathlib.Core.Path.{_≡_, refl, sym, ap, ap₂, _∙_}
 use mathlib.Core.Bool.{Bool, true, false, cond}
-use mathlib.Core.List.{List, [], _∷_}
+use mathlib.Core.List.{List, [], _∷_, _++_}
 use mathlib.Core.Logic.{_⊎_, inl, inr, ⊎-elim, _≢_}
 use Prim.Native.Nat.{ℕ, zero, suc, _+_, _*_, _≤_, _<_}
 use native.Mathlib.Nat.{add-zero, add-suc, mul-zero, mul-suc, suc-mul, le-refl, le-trans, not-suc-le-zero}
@@ -44,6 +44,10 @@ here a l = rw (eq-eqb a a refl) (omega arith)
 
 pub there : (x a : ℕ) (l : List ℕ) → x ∈ l → x ∈ a ∷ l
 there x a l h = omega arith
+
+pub times-append : (x : ℕ) (k l : List ℕ) → times x (k ++ l) ≡ times x k + times x l
+times-append x [] l = omega arith
+times-append x (a ∷ k) l = omega (arith, times-append x k l)
 
 pub distinct-tail : (a : ℕ) (l : List ℕ) → Distinct (a ∷ l) → Distinct l
 distinct-tail a l d x = omega (arith, d x)

@@ -8,8 +8,9 @@ use native.Mathlib.Omega.{arith}
 use lib.ListN.{length, getD, take, length-append}
 use lib.Seq.{take-suc, take-all}
 use borrow.Author.Tests.{lt-ltb, le-ltb}
+use Rattle.mesh.specs.Limits.{placeBound}
 use Rattle.mesh.specs.Numbering.{below}
-use Rattle.mesh.specs.Refine.{over}
+use Rattle.mesh.specs.Mesh.{over}
 use Rattle.mesh.proofs.Lists.{lt-split, below-suc, climbs}
 use Rattle.mesh.proofs.Ranks.{over-append, rank-high, rank-low}
 
@@ -69,7 +70,7 @@ over-left p last l h g = omega (arith, over-rest p last l h)
 -- no entry over `last` among the first i places is below `best`; there is none, or `at` is the place of `best`
 pub record Least (l : List ℕ) (last best at i : ℕ) : Type 0 where
   pub least : below best (over last (take i l)) ≡ 0
-  pub found : ((length (over last (take i l)) ≡ 0) × (best ≡ 65536)) ⊎ ((at < i) × ((getD l at 0 ≡ best) × (last < best)))
+  pub found : ((length (over last (take i l)) ≡ 0) × (best ≡ placeBound)) ⊎ ((at < i) × ((getD l at 0 ≡ best) × (last < best)))
 
 module _ {l : List ℕ} {last best at i : ℕ} (k : Least l last best at i) (h : i < length l) where
   pub least-low : getD l i 0 ≤ last → Least l last best at (i + 1)
@@ -78,7 +79,7 @@ module _ {l : List ℕ} {last best at i : ℕ} (k : Least l last best at i) (h :
     found = ⊎-elim (λ n. inl (over-skip last l i h a ∙ n .0, n .1)) (λ f. inr (omega arith, f .1)) (k .found);
   }
 
-  pub least-high : last < getD l i 0 → best ≤ getD l i 0 → getD l i 0 < 65536 → Least l last best at (i + 1)
+  pub least-high : last < getD l i 0 → best ≤ getD l i 0 → getD l i 0 < placeBound → Least l last best at (i + 1)
   least-high a b c = record {
     least = rank-high last best l i h a b ∙ k .least;
     found = ⊎-elim (λ n. absurd (omega arith)) (λ f. inr (omega arith, f .1)) (k .found);
@@ -94,7 +95,7 @@ module _ {l : List ℕ} {last best at i : ℕ} (k : Least l last best at i) (h :
     found = inr (omega arith, (refl, a));
   }
 
-pub least-none : (l : List ℕ) (last at : ℕ) → Least l last 65536 at 0
+pub least-none : (l : List ℕ) (last at : ℕ) → Least l last placeBound at 0
 least-none l last at = record { least = refl; found = inl (refl, refl) }
 
 pub least-end : {l : List ℕ} {last best at i : ℕ} → Least l last best at i → length l ≤ i → 0 < length (over last l)

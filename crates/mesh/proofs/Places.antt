@@ -131,7 +131,7 @@ absent x l e = go (has x l) refl e
     go true h q = absurd (let z : _≡_ {A = ℕ} 0 1 = cc in omega arith)
     go false h q = h
 
-and-both : (a b : Bool) → a && b ≡ true → (a ≡ true) × (b ≡ true)
+pub and-both : (a b : Bool) → a && b ≡ true → (a ≡ true) × (b ≡ true)
 and-both true b e = (refl, e)
 and-both false b e = (e, cc)
 

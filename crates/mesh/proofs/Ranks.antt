@@ -14,7 +14,7 @@ use lib.Seq.{take-suc}
 use borrow.Author.Tests.{lt-ltb, le-ltb}
 use Rattle.mesh.specs.Search.{bit}
 use Rattle.mesh.specs.Numbering.{below}
-use Rattle.mesh.specs.Refine.{over}
+use Rattle.mesh.specs.Mesh.{over}
 use Rattle.mesh.proofs.Lists.{lt-split}
 
 pub below-append : (k : ℕ) (s t : List ℕ) → below k (s ++ t) ≡ below k s + below k t

@@ -1,20 +1,16 @@
--- Lists with the same entries in another order: how often each stands there, how many are below a number, the sum by a mask and
--- the sources touched are the same.
+-- Lists with the same entries in another order: how often each stands there, and how many are below a number, are the same.
 -- Assumes nothing.
 use mathlib.Core.Path.{_≡_, refl, sym, ap, ap₂, _∙_}
-use mathlib.Core.Bool.{Bool, true, false, cond, _||_}
+use mathlib.Core.Bool.{Bool, true, false, cond}
 use mathlib.Core.List.{List, _∷_, map, List·Permᴰ, List·Permᴰ·nil, List·Permᴰ·cons, List·Permᴰ·swap, List·Permᴰ·trans, Permᴰ·refl}
 use Prim.Native.Nat.{ℕ, suc, _+_}
 use native.Mathlib.Omega.{arith}
 use lib.Dec.{eqb, ltb}
 use lib.ListN.{length}
-use lib.IntN.{ℤ, _+ℤ_, _*ℤ_, +ℤ-assoc, +ℤ-comm}
 use Rattle.mesh.specs.Search.{bit}
 use Rattle.mesh.specs.Ring.{times, _∈_, Distinct}
 use Rattle.mesh.specs.Numbering.{below}
-use Rattle.mesh.specs.Refine.{over}
-use Rattle.mesh.specs.Mask.{Term, weighted, anySource}
-use Rattle.mesh.proofs.First.{or-swap}
+use Rattle.mesh.specs.Mesh.{over}
 
 add-exchanged : (i j n : ℕ) → i + (j + n) ≡ j + (i + n)
 add-exchanged i j n = omega arith
@@ -68,29 +64,3 @@ over-shuffled p (List·Permᴰ·swap {a = a} {b = b} {l = l} e f) = rw (sym e, s
     go false true = Permᴰ·refl (b ∷ over p l)
     go false false = Permᴰ·refl (over p l)
 over-shuffled p (List·Permᴰ·trans q r) = List·Permᴰ·trans (over-shuffled p q) (over-shuffled p r)
-
--- ---- as terms are added up, and asked for a source
-
--- the first two of a sum exchanged
-add-swap : (a b c : ℤ) → a +ℤ (b +ℤ c) ≡ b +ℤ (a +ℤ c)
-add-swap a b c = sym (+ℤ-assoc a b c) ∙ ap (λ z. z +ℤ c) (+ℤ-comm a b) ∙ +ℤ-assoc b a c
-
-module _ (at : ℕ → ℤ) where
-  abbrev part : Term → ℤ
-  part t = t .weight *ℤ at (t .source)
-
-  pub weighted-shuffled : {ts us : List Term} → List·Permᴰ ts us → weighted ts at ≡ weighted us at
-  weighted-shuffled List·Permᴰ·nil = refl
-  weighted-shuffled (List·Permᴰ·cons e p) = ap₂ (λ t s. part t +ℤ s) e (weighted-shuffled p)
-  weighted-shuffled (List·Permᴰ·swap {a = a} {b = b} {l = l} d e) =
-      add-swap (part a) (part b) (weighted l at) ∙ ap₂ (λ t u. part t +ℤ (part u +ℤ weighted l at)) e d
-  weighted-shuffled (List·Permᴰ·trans p q) = weighted-shuffled p ∙ weighted-shuffled q
-
-module _ (hit : ℕ → Bool) where
-  pub any-shuffled : {ts us : List Term} → List·Permᴰ ts us → anySource hit ts ≡ anySource hit us
-  any-shuffled List·Permᴰ·nil = refl
-  any-shuffled (List·Permᴰ·cons e p) = ap₂ (λ t b. hit (t .source) || b) e (any-shuffled p)
-  any-shuffled (List·Permᴰ·swap {a = a} {b = b} {l = l} d e) =
-      or-swap (hit (a .source)) (hit (b .source)) (anySource hit l)
-      ∙ ap₂ (λ t u. hit (t .source) || (hit (u .source) || anySource hit l)) e d
-  any-shuffled (List·Permᴰ·trans p q) = any-shuffled p ∙ any-shuffled q

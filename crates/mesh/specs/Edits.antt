@@ -1,3 +1,4 @@
+-- To be believed.
 -- The ring edits of document 01's section "Ring rules", as edits of a list. Each but make is the list itself where the entry it works at is absent.
 -- Assumes nothing.
 use mathlib.Core.Bool.{cond}

@@ -1,3 +1,4 @@
+-- To be believed.
 -- The numbers of document 01's section "Tables and numbers", each named once.
 -- Assumes nothing.
 use mathlib.Core.Bool.{true, false}
@@ -36,6 +37,18 @@ mostVertices = 65535
 -- no stack has more vertices than this; places in its tables are worked out from numbers up to it
 abbrev pub stackBound : ℕ
 stackBound = 1048576
+
+-- a place of a ring holds numbers below this
+abbrev pub placeBound : ℕ
+placeBound = 65536
+
+-- a place of a valence, of 16 bits whatever a ring's has, holds numbers below this
+abbrev pub valenceBound : ℕ
+valenceBound = 65536
+
+-- no E is over this: half of what the valences of a control mesh can add up to
+abbrev pub edgeBound : ℕ
+edgeBound = 33554432
 
 -- the number that stands for no vertex
 abbrev pub nullVertex : ℕ

@@ -1,7 +1,8 @@
--- Meshes as rings, and the rules of document 01's section "Ring rules": when a ring is proper, when a mesh is sound, and its counts.
+-- To be believed.
+-- Meshes as rings, and the rules of document 01's section "Ring rules": when a ring is proper, when a mesh is sound, and its counts. Then its edges p, q with p < q.
 -- Assumes nothing.
 use mathlib.Core.Bool.{cond}
-use mathlib.Core.List.{List, []}
+use mathlib.Core.List.{List, [], _∷_}
 use Prim.Native.Nat.{ℕ, _+_, _*_, _/_, _≤_, _<_}
 use lib.Dec.{ltb}
 use lib.IntN.{ℤ, subℕ}
@@ -48,3 +49,12 @@ faces M = 2 * edges M / 3
 -- V - E + F
 unfoldable pub characteristic : Mesh → ℤ
 characteristic M = subℕ (M .count + faces M) (edges M)
+
+-- the entries greater than p
+abbrev pub over : ℕ → List ℕ → List ℕ
+over p [] = []
+over p (a ∷ l) = cond (ltb p a) (a ∷ over p l) (over p l)
+
+-- the q of the edges p < q
+unfoldable pub up : Mesh → ℕ → List ℕ
+up M p = over p (M .ring p)

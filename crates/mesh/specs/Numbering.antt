@@ -1,3 +1,4 @@
+-- To be believed.
 -- Numbering the entries of several rows: row after row, and in a row by ascending entry.
 -- Assumes nothing.
 use mathlib.Core.List.{List, [], _∷_}

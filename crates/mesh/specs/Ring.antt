@@ -1,3 +1,4 @@
+-- To be believed.
 -- Rings as circular lists (document 01, "Ring rules"): places, absence, what follows and precedes an entry, and rings that are
 -- the same up to where they begin.
 -- Assumes nothing.

@@ -1,3 +1,4 @@
+-- To be believed.
 -- The ring rules as tests of one vertex, in the order of reasons 4, 5 and 6. The check asks each of them for the lowest vertex.
 -- Assumes nothing.
 use mathlib.Core.Bool.{Bool, not, _||_}

@@ -14,7 +14,7 @@ use lib.Ieee.Exact.{HasValue, odd-sign, round-exact}
 use lib.Ieee.Back.{round-whole}
 use lib.Ieee.Scale.{round-same}
 use Rattle.mesh.specs.Limits.{mostUnits}
-use Rattle.mesh.specs.Round.{rounded}
+use Rattle.steps.specs.Round.{rounded}
 use Rattle.units.specs.Coordinate.{InRange}
 use Rattle.millimetres.specs.Millimetres.{signed, mmUnit, inside, unitsOf}
 use Rattle.millimetres.proofs.Signed.{rounded-same, rounded-tiny, rounded-whole, rounded-in}

@@ -9,8 +9,8 @@ use lib.Ieee.Scale.{finite}
 use Rattle.millimetres.specs.declared.Mm.{Mm}
 use Rattle.units.specs.declared.Point.{Point}
 use Rattle.millimetres.specs.declared.Change.{Change}
-use Rattle.millimetres.specs.declared.Moved.the-variants.{At, NotFinite, Outside}
-use Rattle.millimetres.specs.declared.UnitsAnswer.the-variants.{Units, TooFar}
+use Rattle.millimetres.specs.declared.Moved.the-variants.{At, NotFinite, OutOfReach}
+use Rattle.millimetres.specs.declared.UnitsAnswer.the-variants.{Units, ControlCoordinate}
 use Rattle.millimetres.specs.Millimetres.{inside, unitsOf, unitsAnswer}
 use Rattle.millimetres.specs.Move.{numbersOf, fit, changedBy, settledAt, movedTo}
 
@@ -44,22 +44,22 @@ pub was-units : (x : Float) (z : ℤ) → unitsAnswer x ≡ Units z → (inside 
 unfolding unitsAnswer
 was-units x z p = go (inside x) p
   where
-    go : (b : Bool) → cond b (Units (unitsOf x)) TooFar ≡ Units z → (b ≡ true) × (z ≡ unitsOf x)
+    go : (b : Bool) → cond b (Units (unitsOf x)) ControlCoordinate ≡ Units z → (b ≡ true) × (z ≡ unitsOf x)
     go true p = (refl, cc)
     go false p = let o : _≡_ {A = ℕ} 0 1 = cc in absurd (let z : ⊥ = omega arith in z)
 
-pub was-outside : (x : Float) → unitsAnswer x ≡ TooFar → inside x ≡ false
+pub was-outside : (x : Float) → unitsAnswer x ≡ ControlCoordinate → inside x ≡ false
 unfolding unitsAnswer
 was-outside x p = go (inside x) p
   where
-    go : (b : Bool) → cond b (Units (unitsOf x)) TooFar ≡ TooFar → b ≡ false
+    go : (b : Bool) → cond b (Units (unitsOf x)) ControlCoordinate ≡ ControlCoordinate → b ≡ false
     go true p = let o : _≡_ {A = ℕ} 0 1 = cc in absurd (let z : ⊥ = omega arith in z)
     go false p = refl
 
 pub settled-by : (m : Mm) (b : Bool) → inside (m .x) && inside (m .y) && inside (m .z) ≡ b
-    → settledAt m ≡ cond b (At (record { x = unitsOf (m .x); y = unitsOf (m .y); z = unitsOf (m .z) })) Outside
+    → settledAt m ≡ cond b (At (record { x = unitsOf (m .x); y = unitsOf (m .y); z = unitsOf (m .z) })) OutOfReach
 unfolding settledAt
-settled-by m b e = ap (λ (t : Bool). cond t (At (record { x = unitsOf (m .x); y = unitsOf (m .y); z = unitsOf (m .z) })) Outside) e
+settled-by m b e = ap (λ (t : Bool). cond t (At (record { x = unitsOf (m .x); y = unitsOf (m .y); z = unitsOf (m .z) })) OutOfReach) e
 
 pub point-is : (a b c a' b' c' : ℤ) → a ≡ a' → b ≡ b' → c ≡ c' → _≡_ {A = Point} (record { x = a; y = b; z = c }) (record { x = a'; y = b'; z = c' })
 point-is a b c a' b' c' p q r = λ i. record { x = p i; y = q i; z = r i }

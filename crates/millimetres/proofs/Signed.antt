@@ -6,9 +6,9 @@ use native.Mathlib.Nat.{mul-one, mul-right-comm, mul-le-mul-left, le-trans, add-
 use native.Mathlib.Omega.{arith}
 use lib.IntN.{ℤ, pos, subℕ}
 use Rattle.mesh.specs.Limits.{mostUnits}
-use Rattle.mesh.specs.Round.{Is, rounded, roundNat}
-use Rattle.mesh.proofs.Ints.{sub-pos, sub-neg}
-use Rattle.mesh.proofs.Rounding.{rounded-sub, roundNat-same, roundNat-near, roundNat-le}
+use Rattle.steps.specs.Round.{Is, rounded, roundNat}
+use Rattle.steps.proofs.Ints.{sub-pos, sub-neg}
+use Rattle.steps.proofs.Rounding.{rounded-sub, roundNat-same, roundNat-near, roundNat-le}
 use Rattle.units.specs.Coordinate.{InRange}
 use Rattle.units.proofs.Coordinates.{down-in}
 use Rattle.millimetres.specs.Millimetres.{signed, toward}

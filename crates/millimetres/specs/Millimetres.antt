@@ -1,3 +1,4 @@
+-- To be believed.
 -- Millimetres as 64-bit floats, and units (section "Moves"): which floats are in range, what they are in units, and what units are in millimetres.
 -- Assumes nothing.
 use mathlib.Core.Bool.{Bool, true, false, cond, not, _&&_}
@@ -6,11 +7,11 @@ use lib.IntN.{ℤ, pos, negℤ, natAbs}
 use lib.Signed.{nonNeg}
 use lib.Ieee.{Float, nan, inf, fin, up, down, le, binary64, round}
 use Rattle.mesh.specs.Limits.{lowMillimetres, highMillimetres, unitsInMillimetre}
-use Rattle.mesh.specs.Round.{rounded}
-use Rattle.millimetres.specs.declared.Mm.{Mm}
+use Rattle.steps.specs.Round.{rounded}
 use Rattle.units.specs.declared.Point.{Point}
+use Rattle.millimetres.specs.declared.Mm.{Mm}
 use Rattle.millimetres.specs.declared.UnitsAnswer.{UnitsAnswer}
-use Rattle.millimetres.specs.declared.UnitsAnswer.the-variants.{Units, TooFar}
+use Rattle.millimetres.specs.declared.UnitsAnswer.the-variants.{Units, ControlCoordinate}
 
 -- ±k, by a sign as a float has it: true is negative
 abbrev pub signed : Bool → ℕ → ℤ
@@ -34,7 +35,7 @@ unitsOf (fin s m e) = rounded (signed s (m * up e * unitsInMillimetre)) (down e)
 
 -- the units of a float, or that it is too far
 unfoldable pub unitsAnswer : Float → UnitsAnswer
-unitsAnswer x = cond (inside x) (Units (unitsOf x)) TooFar
+unitsAnswer x = cond (inside x) (Units (unitsOf x)) ControlCoordinate
 
 -- z units: the float nearest to z / 1,024, which for a coordinate is that fraction itself
 unfoldable pub mmUnit : ℤ → Float

@@ -1,3 +1,4 @@
+-- To be believed.
 -- One move of one point (section "Moves", refusals 13 and 14).
 -- Assumes nothing.
 use mathlib.Core.Bool.{Bool, cond, _&&_}
@@ -8,7 +9,7 @@ use Rattle.millimetres.specs.declared.Mm.{Mm}
 use Rattle.millimetres.specs.declared.Change.{Change}
 use Rattle.millimetres.specs.declared.Change.the-variants.{Place, Shift, Stretch}
 use Rattle.millimetres.specs.declared.Moved.{Moved}
-use Rattle.millimetres.specs.declared.Moved.the-variants.{At, NotFinite, Outside}
+use Rattle.millimetres.specs.declared.Moved.the-variants.{At, NotFinite, OutOfReach}
 
 -- the three numbers of a move
 abbrev pub numbersOf : Change → Mm
@@ -28,7 +29,7 @@ changedBy p (Stretch x y z) = record { x = mul binary64 (p .x) x; y = mul binary
 
 -- the result in units, or 14 where a coordinate is out of range
 unfoldable pub settledAt : Mm → Moved
-settledAt m = cond (inside (m .x) && inside (m .y) && inside (m .z)) (At (record { x = unitsOf (m .x); y = unitsOf (m .y); z = unitsOf (m .z) })) Outside
+settledAt m = cond (inside (m .x) && inside (m .y) && inside (m .z)) (At (record { x = unitsOf (m .x); y = unitsOf (m .y); z = unitsOf (m .z) })) OutOfReach
 
 -- one move: 13 looks at all three numbers before 14 looks at a result
 unfoldable pub movedTo : Mm → Change → Moved

@@ -4,14 +4,14 @@ ghost use Prim.Native.Nat.{_*_, _^_, _≤_, _<_};
 ghost use lib.Dec.{T};
 ghost use lib.Ieee.{binary64, ofBits};
 ghost use Rattle.mesh.specs.Limits.{mostUnits};
-ghost use Rattle.mesh.specs.Round.{rounded};
+ghost use Rattle.steps.specs.Round.{rounded};
 ghost use Rattle.units.specs.Coordinate.{InRange};
 ghost use Rattle.millimetres.specs.Millimetres.{signed, toward, inside, unitsOf, unitsAnswer, mmOf};
-use super::HIGH_MILLIMETRES;
-use super::LOW_MILLIMETRES;
 use super::MILLIMETRES_IN_UNIT;
 use super::Mm;
 use super::UnitsAnswer;
+use mesh::limits::HIGH_MILLIMETRES;
+use mesh::limits::LOW_MILLIMETRES;
 use units::Point;
 use units::points::difference;
 use units::points::nearest;
@@ -76,7 +76,7 @@ pub fn units_of(x: f64) -> UnitsAnswer
             return UnitsAnswer::Units(units_of_bits(f64::to_bits(x)));
         }
     }
-    UnitsAnswer::TooFar
+    UnitsAnswer::ControlCoordinate
 }
 
 // A point of units in millimetres, without loss.

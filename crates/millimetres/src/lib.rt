@@ -7,11 +7,6 @@ pub use floats::mm_of;
 pub use moves::moved_point;
 use units::Point;
 
-// A move ends between these, ends included.
-pub const LOW_MILLIMETRES: f64 = -1024.0;
-
-pub const HIGH_MILLIMETRES: f64 = 1024.0;
-
 // One unit.
 pub const MILLIMETRES_IN_UNIT: f64 = 0.0009765625;
 
@@ -34,11 +29,11 @@ pub enum Change {
 pub enum Moved {
     At(Point),
     NotFinite,
-    Outside,
+    OutOfReach,
 }
 
 // What a float is in units.
 pub enum UnitsAnswer {
     Units(i32),
-    TooFar,
+    ControlCoordinate,
 }

@@ -68,13 +68,13 @@ fn settled(m: Mm) -> Moved
     ensures { λ r. ⌜ r ≡ settledAt m ⌝ }
 {
     let UnitsAnswer::Units(x) = units_of(m.x) else {
-        return Moved::Outside;
+        return Moved::OutOfReach;
     };
     let UnitsAnswer::Units(y) = units_of(m.y) else {
-        return Moved::Outside;
+        return Moved::OutOfReach;
     };
     let UnitsAnswer::Units(z) = units_of(m.z) else {
-        return Moved::Outside;
+        return Moved::OutOfReach;
     };
     Moved::At(Point { x, y, z })
 }

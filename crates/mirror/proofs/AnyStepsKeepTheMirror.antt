@@ -8,13 +8,13 @@ use Prim.Native.Nat.{ℕ, zero, suc, _<_}
 use lib.IntN.{ℤ, pos, negsuc, negℤ, _+ℤ_, _*ℤ_, negℤ-+ℤ, negℤ-negℤ, *ℤ-zero, *ℤ-negsuc}
 use Rattle.mesh.specs.Search.{bit, sum}
 use Rattle.mesh.specs.Mesh.{Mesh, Sound}
-use Rattle.mesh.specs.Round.{rounded}
-use Rattle.mesh.specs.Mask.{Term, Mask, weighted, byMask, Grounded, touched, touchedCount, refined}
 use Rattle.mesh.proofs.Lists.{sum-same}
-use Rattle.mesh.proofs.RoundsToNearest.{rounding-is-symmetric}
-use Rattle.mesh.proofs.Refresh.{byMask-same}
-use Rattle.mesh.proofs.TouchedPoints.{any-same}
-use Rattle.mesh.proofs.Shuffled.{weighted-shuffled, any-shuffled}
+use Rattle.steps.specs.Round.{rounded}
+use Rattle.steps.specs.Mask.{Term, Mask, weighted, byMask, Grounded, touched, touchedCount, refined}
+use Rattle.steps.proofs.RoundsToNearest.{rounding-is-symmetric}
+use Rattle.steps.proofs.Refresh.{byMask-same}
+use Rattle.steps.proofs.TouchedPoints.{any-same}
+use Rattle.steps.proofs.ShuffledTerms.{weighted-shuffled, any-shuffled}
 use Rattle.mirror.specs.Mirror.{Mirrored}
 use Rattle.mirror.specs.Step.{Step, levelBy, masksBy, Founded, SameMask, KeepsMirror}
 

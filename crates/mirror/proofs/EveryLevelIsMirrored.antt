@@ -6,9 +6,9 @@ use mathlib.Core.Bool.{Bool}
 use Prim.Native.Nat.{ℕ, zero, suc, _<_}
 use lib.IntN.{ℤ, negℤ}
 use Rattle.mesh.specs.Mesh.{Mesh, Sound, edges, faces}
-use Rattle.mesh.specs.Refine.{level}
-use Rattle.mesh.specs.Mask.{touched, touchedCount, refined}
-use Rattle.mesh.specs.Loop.{loopMask, loop}
+use Rattle.steps.specs.Mask.{touched, touchedCount, refined}
+use Rattle.loop_step.specs.Refine.{level}
+use Rattle.loop_step.specs.Loop.{loopMask, loop}
 use Rattle.mirror.specs.Mirror.{Mirrored}
 use Rattle.mirror.specs.Step.{Step, loopStep, levelBy, masksBy, Founded, KeepsMirror}
 use Rattle.mirror.proofs.MirroredMeshIsSound as sound

@@ -8,16 +8,17 @@ use Prim.Native.Nat.{ℕ, _+_, _≤_, _<_}
 use native.Mathlib.Omega.{arith}
 use Rattle.mesh.specs.Ring.{_∈_, next, prev, SameRound}
 use Rattle.mesh.specs.Mesh.{Mesh, Sound}
-use Rattle.mesh.specs.Refine.{mid, lowEnd, highEnd, around, refine, level}
-use Rattle.mesh.specs.Loop.{edgeMask, loopMask, loop}
 use Rattle.mesh.proofs.Lists.{lt-split}
-use Rattle.mesh.proofs.Edges as E
-use Rattle.mesh.proofs.Refined as refined
-use Rattle.mesh.proofs.Levels.{loop-grounded}
-use Rattle.mesh.proofs.LoopMasks.{old-mask, edge-mask}
-use Rattle.mesh.proofs.Means.{loop-mean}
+use Rattle.mesh.proofs.SoundMeshes as H
 use Rattle.mesh.proofs.Shuffled.{map-shuffled}
 use Rattle.mesh.proofs.SameRounds.{round-mapped}
+use Rattle.loop_step.specs.Refine.{mid, lowEnd, highEnd, around, refine, level}
+use Rattle.loop_step.specs.Loop.{edgeMask, loopMask, loop}
+use Rattle.loop_step.proofs.Mids as E
+use Rattle.loop_step.proofs.Refined as refined
+use Rattle.loop_step.proofs.Levels.{loop-grounded}
+use Rattle.loop_step.proofs.LoopMasks.{old-mask, edge-mask}
+use Rattle.loop_step.proofs.LoopMeans.{loop-mean}
 use Rattle.mirror.specs.Mirror.{Mirrored}
 use Rattle.mirror.specs.Step.{loopStep, Founded, SameMask, KeepsMirror}
 use Rattle.mirror.proofs.Mirrorings as m
@@ -71,10 +72,10 @@ module _ (M N : Mesh) (S : Sound M) (R : Mirrored M N) where
     new-ring =
         let mids : (v u : ℕ) → v < M .count → mid N v u ≡ mid M v u = m.mid-mirrored M N R in
         let here : refine M .ring (mid M p q) ≡ around M p q (next (M .ring p) q) (prev (M .ring p) q) =
-        refined.new-ring M S p q l h i ∙ ap (around M p q (next (M .ring p) q)) (sym (refined.prev-next M S p q h i)) in
+        refined.new-ring M S p q l h i ∙ ap (around M p q (next (M .ring p) q)) (sym (H.prev-next M S p q h i)) in
         let there : refine N .ring (mid M p q) ≡ around N p q (prev (M .ring p) q) (next (M .ring p) q) =
         ap (λ x. refine N .ring x) (sym (mids p q h)) ∙ refined.new-ring N T p q l h′ i′
-        ∙ ap₂ (around N p q) after-is (sym (refined.prev-next N T p q h′ i′) ∙ before-is) in
+        ∙ ap₂ (around N p q) after-is (sym (H.prev-next N T p q h′ i′) ∙ before-is) in
         let turned = image (next (M .ring p) q) (prev (M .ring p) q) (λ u. mids p u h) (λ u. mids q u g) in
         rw (here, there) (record { start = 5; within = omega arith; turned = turned })
       where

@@ -11,7 +11,7 @@ use Rattle.millimetres.specs.Move.{fit, changedBy, settledAt, movedTo}
 use Rattle.mirror.specs.MirroredMove.{mirroredChange, mirroredPoint, mirroredMoved}
 use Rattle.millimetres.specs.declared.Change.{Change}
 use Rattle.millimetres.specs.declared.Change.the-variants.{Place, Shift, Stretch}
-use Rattle.millimetres.specs.declared.Moved.the-variants.{At, NotFinite, Outside}
+use Rattle.millimetres.specs.declared.Moved.the-variants.{At, NotFinite, OutOfReach}
 use Rattle.mirror.proofs.Opposed.{Opposed, neg-opposed, add-opposed, mul-opposed, mm-opposed, units-opposed, inside-opposed}
 
 -- points in millimetres with opposed x and the same y and z
@@ -21,8 +21,8 @@ unfolding settledAt
 settled-mirrored x x′ y z o = rw (inside-opposed x x′ o, units-opposed x x′ o) (go (inside x && inside y && inside z))
   where
     go : (b : Bool)
-        → cond b (At (record { x = negℤ (unitsOf x); y = unitsOf y; z = unitsOf z })) Outside
-        ≡ mirroredMoved (cond b (At (record { x = unitsOf x; y = unitsOf y; z = unitsOf z })) Outside)
+        → cond b (At (record { x = negℤ (unitsOf x); y = unitsOf y; z = unitsOf z })) OutOfReach
+        ≡ mirroredMoved (cond b (At (record { x = unitsOf x; y = unitsOf y; z = unitsOf z })) OutOfReach)
     go true = refl
     go false = refl
 

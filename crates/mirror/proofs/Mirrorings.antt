@@ -9,13 +9,13 @@ use borrow.Author.Tests.{lt-ltb}
 use Rattle.mesh.specs.Search.{sum}
 use Rattle.mesh.specs.Ring.{_∈_, next, prev, Follows, SameRound}
 use Rattle.mesh.specs.Numbering.{start, number}
-use Rattle.mesh.specs.Mesh.{Mesh, Proper, edges, valences}
-use Rattle.mesh.specs.Refine.{up, mid}
+use Rattle.mesh.specs.Mesh.{Mesh, Proper, edges, valences, up}
 use Rattle.mesh.proofs.Lists.{sum-same}
 use Rattle.mesh.proofs.Rings.{next-in, prev-in}
 use Rattle.mesh.proofs.RingsGoRound.{next-of-prev, prev-is-what-it-follows}
 use Rattle.mesh.proofs.Shuffled.{length-shuffled, in-shuffled, distinct-shuffled, below-shuffled, over-shuffled}
 use Rattle.mesh.proofs.SameRounds.{same-round, round-back, round-shuffled, round-reversed, reverse-shuffled, Facing, reversed-faces}
+use Rattle.loop_step.specs.Refine.{mid}
 use Rattle.mirror.specs.Mirror.{mirror, Mirrored}
 
 -- each ring reversed as it stands is a mirrored mesh

@@ -16,8 +16,8 @@ use lib.Ieee.Exact.{round-exact}
 use lib.Ieee.Fits.{up-pos, down-pos}
 use borrow.Author.Tests.{lt-ltb, le-ltb, eq-eqb, ne-eqb}
 use Rattle.mesh.specs.Limits.{unitsInMillimetre}
-use Rattle.mesh.proofs.RoundsToNearest.{rounding-is-symmetric}
 use Rattle.mesh.proofs.Lists.{eq-split, lt-split}
+use Rattle.steps.proofs.RoundsToNearest.{rounding-is-symmetric}
 use Rattle.millimetres.specs.Millimetres.{signed, inside, unitsOf, mmUnit}
 
 -- a number and its sign on the one side and on the other: the sign differs, or the number is 0

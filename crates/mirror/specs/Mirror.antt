@@ -1,3 +1,4 @@
+-- To be believed.
 -- The mirrored mesh (document 02, order 3): every ring goes the other way round, wherever it begins.
 -- Assumes nothing.
 use mathlib.Core.Path.{_≡_}

@@ -1,3 +1,4 @@
+-- To be believed.
 -- The mirrored point and the mirrored move (document 02, order 3): a placing or a shift with its x negated, a stretch as it is.
 -- Assumes nothing.
 use lib.IntN.{negℤ}
@@ -6,7 +7,7 @@ use Rattle.units.specs.declared.Point.{Point}
 use Rattle.millimetres.specs.declared.Change.{Change}
 use Rattle.millimetres.specs.declared.Change.the-variants.{Place, Shift, Stretch}
 use Rattle.millimetres.specs.declared.Moved.{Moved}
-use Rattle.millimetres.specs.declared.Moved.the-variants.{At, NotFinite, Outside}
+use Rattle.millimetres.specs.declared.Moved.the-variants.{At, NotFinite, OutOfReach}
 
 abbrev pub mirroredChange : Change → Change
 mirroredChange (Place x y z) = Place (neg x) y z
@@ -21,4 +22,4 @@ mirroredPoint p = record { x = negℤ (p .x); y = p .y; z = p .z }
 abbrev pub mirroredMoved : Moved → Moved
 mirroredMoved (At p) = At (mirroredPoint p)
 mirroredMoved NotFinite = NotFinite
-mirroredMoved Outside = Outside
+mirroredMoved OutOfReach = OutOfReach

@@ -1,12 +1,13 @@
+-- To be believed.
 -- A step of refinement in general, and the two facts by which a step keeps mirrored meshes mirrored (document 02, order 3).
 -- Assumes nothing.
 use mathlib.Core.Path.{_≡_}
 use mathlib.Core.List.{List·Permᴰ}
 use Prim.Native.Nat.{ℕ, zero, suc, _<_}
 use Rattle.mesh.specs.Mesh.{Mesh, Sound}
-use Rattle.mesh.specs.Refine.{refine}
-use Rattle.mesh.specs.Mask.{Mask, SourcesBelow, Steps}
-use Rattle.mesh.specs.Loop.{loopMask}
+use Rattle.steps.specs.Mask.{Mask, SourcesBelow, Steps}
+use Rattle.loop_step.specs.Refine.{refine}
+use Rattle.loop_step.specs.Loop.{loopMask}
 use Rattle.mirror.specs.Mirror.{Mirrored}
 
 -- the mesh of the next level, and the mask of each of its points

@@ -8,8 +8,8 @@ use native.Mathlib.Omega.{arith}
 use lib.ListN.{length, getD, take, drop, set}
 use lib.Seq.{take-suc}
 use Rattle.rings.specs.Table.{put}
-use Rattle.meshfile.specs.Blocks.{Put}
-use Rattle.meshfile.proofs.Blocks.{put-none, put-one, put-length, renewed}
+use Rattle.file_format.specs.Blocks.{Put}
+use Rattle.file_format.proofs.Blocks.{put-none, put-one, put-length, renewed}
 use Rattle.numerals.specs.Numerals.{digit, digits}
 use Rattle.numerals.proofs.Digits.{lastDigits, digits-are}
 

@@ -6,14 +6,14 @@ use native.Mathlib.Nat.{add-zero, suc-mul, le-antisymm}
 use native.Mathlib.Numerals.{add-one}
 use native.Mathlib.Omega.{arith}
 use lib.ListN.{length, set, length-append}
-use Rattle.meshfile.proofs.Blocks.{put-none, put-one, put-length, then}
+use Rattle.file_format.proofs.Blocks.{put-none, put-one, put-length, then}
 use Rattle.numerals.specs.Wrote.{Wrote}
 use mir.Syntax.{w32}
 use mir.Val.{SFits, toZ, ofZ}
 use mir.ValLaws.{toZ-ofZ}
-use Rattle.meshfile.specs.Blocks.{Put}
-use Rattle.meshfile.specs.Bytes.{bitsOf, coordinateOf}
-use Rattle.meshfile.proofs.Signed.{low, high, bits-lt, coordinate-bits}
+use Rattle.file_format.specs.Blocks.{Put}
+use Rattle.file_format.specs.Bytes.{bitsOf, coordinateOf}
+use Rattle.file_format.proofs.Signed.{low, high, bits-lt, coordinate-bits}
 use lib.IntN.{ℤ}
 use Rattle.rings.specs.Table.{gather}
 use Rattle.numerals.specs.Numerals.{minus, digits, number, signed}

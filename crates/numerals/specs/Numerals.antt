@@ -1,3 +1,4 @@
+-- To be believed.
 -- Numbers as bytes (document 01, the listing; document 02, order 4): decimal numerals, and the byte behind each.
 -- Assumes nothing.
 use mathlib.Core.Bool.{cond}

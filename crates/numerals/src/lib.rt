@@ -4,11 +4,11 @@ ghost use mathlib.Core.List.{[], _∷_};
 ghost use Prim.Native.Nat.{_+_, _<_, _≤_};
 ghost use lib.IntN.{pos};
 ghost use lib.ListN.{length, getD};
-ghost use Rattle.meshfile.specs.Blocks.{Put};
-ghost use Rattle.meshfile.specs.Bytes.{coordinateOf};
+ghost use Rattle.file_format.specs.Blocks.{Put};
+ghost use Rattle.file_format.specs.Bytes.{coordinateOf};
 ghost use Rattle.numerals.specs.Numerals.{digits, number, signed};
 ghost use Rattle.numerals.specs.Wrote.{Wrote};
-use meshfile::bytes::bits_of;
+use file_format::bytes::bits_of;
 
 // The most digits that a number of 64 bits has.
 const MOST_DIGITS: usize = 20;

@@ -1,3 +1,4 @@
+-- For inside.
 -- Blocks of vertices: as many rows of one width as two tables of 1,024 places hold, 128 at most.
 -- Assumes nothing.
 use mathlib.Core.List.{List}

@@ -11,8 +11,7 @@ use lib.ListN.{length, getD, length-append}
 use borrow.Author.Tests.{lt-ltb, le-ltb}
 use Rattle.mesh.specs.Ring.{times, _∈_, Distinct, has, prev, placeBefore}
 use Rattle.mesh.specs.Numbering.{below}
-use Rattle.mesh.specs.Mesh.{Mesh}
-use Rattle.mesh.specs.Refine.{over}
+use Rattle.mesh.specs.Mesh.{Mesh, over}
 use Rattle.mesh.proofs.Lists.{lt-split, below-suc, climbs}
 use Rattle.mesh.proofs.Edges.{over-in}
 use Rattle.mesh.proofs.Rings.{getD-in, place-getD, prev-at}

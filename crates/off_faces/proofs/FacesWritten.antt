@@ -11,13 +11,12 @@ use lib.ListN.{length, getD, length-append}
 use borrow.Author.Tests.{lt-ltb, le-ltb}
 use Rattle.mesh.specs.Ring.{placeBefore}
 use Rattle.mesh.specs.Numbering.{below}
-use Rattle.mesh.specs.Mesh.{Sound}
-use Rattle.mesh.specs.Refine.{over}
+use Rattle.mesh.specs.Mesh.{Sound, over}
 use Rattle.mesh.proofs.Lists.{below-suc}
 use Rattle.mesh.proofs.Edges.{over-in}
 use Rattle.mesh.proofs.Overs.{over-none, over-next, over-left, over-rest}
 use Rattle.mesh.proofs.Rings.{getD-in}
-use Rattle.rings.specs.Table.{ringOf, rows}
+use Rattle.rings.specs.Table.{Lent, ringOf, rows}
 use Rattle.rings.proofs.Rows.{rows-ring}
 use Rattle.off_rings.specs.Faces.{Face}
 use Rattle.off_rings.specs.Listed.{facesFrom, facesBelow, listed}
@@ -25,8 +24,7 @@ use Rattle.off_text.specs.WriteOff.{faceLine, faceLines}
 use Rattle.off_lines.specs.Written.{Written}
 use Rattle.off_lines.proofs.Writing.{written-length, written-none, written-then, written-is}
 use Rattle.off_faces.specs.Facing.{facesOf, Ascending}
-use Rattle.off_faces.proofs.FacesInOrder.{lines-append, faces-none, faces-between, faces-behind, faces-entry, faces-longer}
-use Rattle.off_faces.proofs.FacesInOrder.{faces-by-ring, vertices-longer}
+use Rattle.off_faces.proofs.FacesInOrder.{lines-append, faces-none, faces-between, faces-behind, faces-entry, faces-longer, faces-by-ring, vertices-longer}
 
 one-line : (f : Face) → faceLines (f ∷ []) ≡ faceLine f
 unfolding faceLines
@@ -91,7 +89,7 @@ module _ {old : List ℕ} {at : ℕ} {ring : List ℕ} {a b k : ℕ} {new : List
     lines-now l =
         ap (λ x. faceLines (facesOf ring a (suc b)) ++ x) (sym (one-line face))
         ∙ sym (lines-append (facesOf ring a (suc b)) (face ∷ []))
-        ∙ sym (ap faceLines (faces-now ∙ ap (λ t. facesOf ring a (suc b) ++ cond t (face ∷ []) []) (lt-ltb a c l)))
+        ∙ sym (ap faceLines (faces-now ∙ ap (λ y. facesOf ring a (suc b) ++ cond y (face ∷ []) []) (lt-ltb a c l)))
 
     pub faced-fits : a < c → at + length (faceLines (facesOf ring a n)) ≤ length old
         → end + length (faceLine (record { a = a; b = getD ring i 0; c = c })) ≤ length new
@@ -121,36 +119,36 @@ module _ {old : List ℕ} {at : ℕ} {ring : List ℕ} {a b k : ℕ} {new : List
       low = omega (arith, over-a);
       passed = once-more;
       lines =
-          let t = ap (λ t. facesOf ring a (suc b) ++ cond t (face ∷ []) []) (le-ltb a c l) in
-          written-is (ap faceLines (sym (faces-now ∙ t ∙ append-nil (facesOf ring a (suc b))))) (w .lines);
+          let y = ap (λ y. facesOf ring a (suc b) ++ cond y (face ∷ []) []) (le-ltb a c l) in
+          written-is (ap faceLines (sym (faces-now ∙ y ∙ append-nil (facesOf ring a (suc b))))) (w .lines);
     }
 
 -- ---- all vertices
 
 -- the faces of the vertices below a are written
-pub record Reached (n : ℕ) (vs rs old : List ℕ) (at a : ℕ) (new : List ℕ) (end : ℕ) : Type 0 where
+pub record Reached (n : ℕ) (t : Lent) (old : List ℕ) (at a : ℕ) (new : List ℕ) (end : ℕ) : Type 0 where
   pub most : a ≤ n
-  pub lines : Written old at (faceLines (facesBelow (rows n vs rs) a)) new end
+  pub lines : Written old at (faceLines (facesBelow (rows n t) a)) new end
 
-pub reached-none : (n : ℕ) (vs rs : List ℕ) {old : List ℕ} {at : ℕ} → at ≤ length old → Reached n vs rs old at 0 old at
+pub reached-none : (n : ℕ) (t : Lent) {old : List ℕ} {at : ℕ} → at ≤ length old → Reached n t old at 0 old at
 unfolding facesBelow faceLines
-reached-none n vs rs h = record { most = omega arith; lines = written-none h }
+reached-none n t h = record { most = omega arith; lines = written-none h }
 
-pub row-ascending : (n : ℕ) (vs rs : List ℕ) → Sound (rows n vs rs) → {a : ℕ} → a < n → (ring : List ℕ) → ring ≡ ringOf vs rs a → Ascending ring n
+pub row-ascending : (n : ℕ) (t : Lent) → Sound (rows n t) → {a : ℕ} → a < n → (ring : List ℕ) → ring ≡ ringOf t a → Ascending ring n
 unfolding rows
-row-ascending n vs rs s {a} h ring e =
-    subst (λ l. Ascending l n) (rows-ring n vs rs a h ∙ sym e) (record { known = s .proper a h .known; distinct = s .proper a h .distinct })
+row-ascending n t s {a} h ring e =
+    subst (λ l. Ascending l n) (rows-ring n t a h ∙ sym e) (record { known = s .proper a h .known; distinct = s .proper a h .distinct })
 
-module _ {n : ℕ} {vs rs old : List ℕ} {at a : ℕ} {new : List ℕ} {end : ℕ} (w : Reached n vs rs old at a new end) where
-  module _ (h : a < n) (ring : List ℕ) (e : ring ≡ ringOf vs rs a) where
-    lines-here : faceLines (facesBelow (rows n vs rs) a) ++ faceLines (facesOf ring a n) ≡ faceLines (facesBelow (rows n vs rs) (suc a))
+module _ {n : ℕ} {t : Lent} {old : List ℕ} {at a : ℕ} {new : List ℕ} {end : ℕ} (w : Reached n t old at a new end) where
+  module _ (h : a < n) (ring : List ℕ) (e : ring ≡ ringOf t a) where
+    lines-here : faceLines (facesBelow (rows n t) a) ++ faceLines (facesOf ring a n) ≡ faceLines (facesBelow (rows n t) (suc a))
     unfolding facesBelow rows
     lines-here =
-        ap (λ l. faceLines (facesBelow (rows n vs rs) a) ++ faceLines l)
-        (ap (λ l. facesOf l a n) (e ∙ sym (rows-ring n vs rs a h)) ∙ sym (faces-by-ring (rows n vs rs) a n))
-        ∙ sym (lines-append (facesBelow (rows n vs rs) a) (facesFrom (rows n vs rs) a n))
+        ap (λ l. faceLines (facesBelow (rows n t) a) ++ faceLines l)
+        (ap (λ l. facesOf l a n) (e ∙ sym (rows-ring n t a h)) ∙ sym (faces-by-ring (rows n t) a n))
+        ∙ sym (lines-append (facesBelow (rows n t) a) (facesFrom (rows n t) a n))
 
-    pub reached-fits : at + length (faceLines (listed (rows n vs rs))) ≤ length old → end + length (faceLines (facesOf ring a n)) ≤ length new
+    pub reached-fits : at + length (faceLines (listed (rows n t))) ≤ length old → end + length (faceLines (facesOf ring a n)) ≤ length new
     unfolding listed rows
     reached-fits room =
         omega (
@@ -159,16 +157,16 @@ module _ {n : ℕ} {vs rs old : List ℕ} {at a : ℕ} {new : List ℕ} {end : �
           w .lines .ends,
           written-length (w .lines),
           ap length lines-here,
-          length-append (faceLines (facesBelow (rows n vs rs) a)) (faceLines (facesOf ring a n)),
-          vertices-longer (rows n vs rs) (suc a) n h,
+          length-append (faceLines (facesBelow (rows n t) a)) (faceLines (facesOf ring a n)),
+          vertices-longer (rows n t) (suc a) n h,
         )
 
-    pub reached-more : {new′ : List ℕ} {end′ : ℕ} → Written new end (faceLines (facesOf ring a n)) new′ end′ → Reached n vs rs old at (a + 1) new′ end′
+    pub reached-more : {new′ : List ℕ} {end′ : ℕ} → Written new end (faceLines (facesOf ring a n)) new′ end′ → Reached n t old at (a + 1) new′ end′
     reached-more v = record {
       most = omega arith;
       lines = rw (add-one a) (written-is lines-here (written-then (w .lines) v));
     }
 
-  pub reached-end : n ≤ a → Written old at (faceLines (listed (rows n vs rs))) new end
+  pub reached-end : n ≤ a → Written old at (faceLines (listed (rows n t))) new end
   unfolding listed rows
-  reached-end h = subst (λ k. Written old at (faceLines (facesBelow (rows n vs rs) k)) new end) (le-antisymm (w .most) h) (w .lines)
+  reached-end h = subst (λ k. Written old at (faceLines (facesBelow (rows n t) k)) new end) (le-antisymm (w .most) h) (w .lines)

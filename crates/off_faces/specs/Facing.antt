@@ -1,3 +1,4 @@
+-- For inside.
 -- The faces of one vertex by its ring alone.
 -- Assumes nothing.
 use mathlib.Core.Bool.{cond, _&&_}

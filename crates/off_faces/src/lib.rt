@@ -2,20 +2,21 @@
 ghost use Prim.Native.Nat.{_+_, _≤_, _<_};
 ghost use lib.ListN.{length};
 ghost use Rattle.mesh.specs.Mesh.{Sound};
-ghost use Rattle.rings.specs.Table.{rows};
+ghost use Rattle.rings.specs.Table.{lent, rows};
 ghost use Rattle.rings.specs.Accepts.{Fit};
 ghost use Rattle.off_rings.specs.Listed.{listed};
 ghost use Rattle.off_text.specs.WriteOff.{faceLines};
 ghost use Rattle.off_lines.specs.Written.{Written};
 ghost use Rattle.off_faces.specs.Facing.{facesOf, Ascending};
-use next_rings::numbers::count_over;
-use next_rings::numbers::place_over;
+use loop_rings::numbers::count_over;
+use loop_rings::numbers::place_over;
+use mesh::limits::Vertex;
 use off_lines::put_face;
 use rings::ring::place_before;
 use rings::table::ring_of;
 
 // The faces of which a is the smallest corner.
-fn put_faces_of(text: &mut [u8], at: usize, ring: &[u16], a: usize, count: usize) -> usize
+fn put_faces_of(text: &mut [u8], at: usize, ring: &[Vertex], a: usize, count: usize) -> usize
     requires { ⌜ Ascending (now ring) count ⌝ }
     requires { ⌜ at + length (faceLines (facesOf (now ring) a count)) ≤ length (now text) ⌝ }
     ensures { λ r. ⌜ Written (now (text .entry)) at (faceLines (facesOf (now (ring .entry)) a count)) (now (text .exit)) r ⌝ }
@@ -38,11 +39,17 @@ fn put_faces_of(text: &mut [u8], at: usize, ring: &[u16], a: usize, count: usize
 }
 
 // All faces.
-pub fn put_faces(text: &mut [u8], at: usize, valences: &[u16], rings: &[u16], count: usize) -> usize
-    requires { ⌜ Fit count (now valences) (now rings) ⌝ }
-    requires { ⌜ Sound (rows count (now valences) (now rings)) ⌝ }
-    requires { ⌜ at + length (faceLines (listed (rows count (now valences) (now rings)))) ≤ length (now text) ⌝ }
-    ensures { λ r. ⌜ Written (now (text .entry)) at (faceLines (listed (rows count (now (valences .entry)) (now (rings .entry))))) (now (text .exit)) r ⌝ }
+pub fn put_faces(
+    text: &mut [u8],
+    at: usize,
+    valences: &[u16],
+    rings: &[Vertex],
+    count: usize,
+) -> usize
+    requires { ⌜ Fit count (lent (now valences) (now rings)) ⌝ }
+    requires { ⌜ Sound (rows count (lent (now valences) (now rings))) ⌝ }
+    requires { ⌜ at + length (faceLines (listed (rows count (lent (now valences) (now rings))))) ≤ length (now text) ⌝ }
+    ensures { λ r. ⌜ Written (now (text .entry)) at (faceLines (listed (rows count (lent (now (valences .entry)) (now (rings .entry)))))) (now (text .exit)) r ⌝ }
 {
     let mut end = at;
     let mut a = 0;

@@ -1,3 +1,4 @@
+-- For inside.
 -- Lists kept as rows of one width in a table, each with its count. A list that is longer than the row is counted in full, and only its front is kept.
 -- Assumes nothing.
 use mathlib.Core.Path.{_≡_}

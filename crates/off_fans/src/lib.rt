@@ -2,7 +2,9 @@
 ghost use mathlib.Core.Path.{_≡_};
 ghost use Prim.Native.Nat.{_+_, _*_, _≤_, _<_};
 ghost use lib.ListN.{length, getD, take, drop};
+ghost use Rattle.mesh.specs.Limits.{placeBound};
 ghost use Rattle.off_fans.specs.Rows.{Noted, Room, Low, NotedIn, Cleared};
+use mesh::limits::Vertex;
 
 // No row has an entry.
 pub fn clear(counts: &mut [usize], rows: usize)
@@ -17,7 +19,7 @@ pub fn clear(counts: &mut [usize], rows: usize)
 }
 
 // The first n entries of row j.
-pub fn row_of(table: &[u16], width: usize, j: usize, n: usize) -> &[u16]
+pub fn row_of(table: &[Vertex], width: usize, j: usize, n: usize) -> &[Vertex]
     requires { ⌜ n ≤ width ⌝ }
     requires { ⌜ j * width + width ≤ length (now table) ⌝ }
     ensures { λ r. ⌜ now r ≡ take n (drop (j * width) (now (table .entry))) ⌝ }
@@ -30,12 +32,12 @@ pub fn row_of(table: &[u16], width: usize, j: usize, n: usize) -> &[u16]
 // One entry more in row j of both tables, as far as the row is wide.
 pub fn note(
     counts: &mut [usize],
-    froms: &mut [u16],
-    tos: &mut [u16],
+    froms: &mut [Vertex],
+    tos: &mut [Vertex],
     width: usize,
     j: usize,
-    x: u16,
-    w: u16,
+    x: Vertex,
+    w: Vertex,
 )
     requires { ⌜ j < length (now counts) ⌝ }
     requires { ⌜ getD (now counts) j 0 < 18446744073709551615 ⌝ }
@@ -55,8 +57,8 @@ pub fn note(
 // The same for a vertex v, where it has one of the rows; the first row is that of vertex `first`.
 pub fn note_in(
     counts: &mut [usize],
-    froms: &mut [u16],
-    tos: &mut [u16],
+    froms: &mut [Vertex],
+    tos: &mut [Vertex],
     first: usize,
     rows: usize,
     width: usize,
@@ -66,8 +68,8 @@ pub fn note_in(
 )
     requires { ⌜ Room rows width (now counts) (now froms) (now tos) ⌝ }
     requires { ⌜ Low rows (now counts) ⌝ }
-    requires { ⌜ x < 65536 ⌝ }
-    requires { ⌜ w < 65536 ⌝ }
+    requires { ⌜ x < placeBound ⌝ }
+    requires { ⌜ w < placeBound ⌝ }
     ensures { λ r. ⌜ NotedIn first rows width x v w (now (counts .entry)) (now (froms .entry)) (now (tos .entry))
         (now (counts .exit)) (now (froms .exit)) (now (tos .exit)) ⌝ }
 {
@@ -78,5 +80,5 @@ pub fn note_in(
     if rows <= j {
         return;
     }
-    note(counts, froms, tos, width, j, x as u16, w as u16);
+    note(counts, froms, tos, width, j, x as Vertex, w as Vertex);
 }

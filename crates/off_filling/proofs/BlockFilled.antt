@@ -9,6 +9,7 @@ use lib.ListN.{getD}
 use borrow.Author.Tests.{ltb-true, ltb-false}
 use Rattle.mesh.specs.Search.{first}
 use Rattle.mesh.proofs.First.{first-le, first-clear, first-at}
+use Rattle.rings.specs.Table.{Lent}
 use Rattle.off_text.specs.Layout.{textFaces}
 use Rattle.off_fans.specs.Rows.{Room}
 use Rattle.off_gather.specs.Gathering.{FaceLines, Gathered, SameRoom}
@@ -24,10 +25,10 @@ pub record Reached (s : List ℕ) (count at width rows j : ℕ) (counts froms to
   pub gathered : Gathered s at rows width (textFaces s) counts froms tos
   pub over : j ≡ first (overAt width counts) rows
 
-pub reached : {s : List ℕ} {faces from count at width rows j : ℕ} {c f t c′ f′ t′ : List ℕ} → FaceLines s faces from → Tables c f t
-    → Block width (count - at) rows → Gathered s at rows width faces c′ f′ t′ → SameRoom c f t c′ f′ t′ → j ≡ first (overAt width c′) rows
-    → Reached s count at width rows j c′ f′ t′
-reached {s} {faces} {from} {count} {at} {width} {rows} {j} {c} {f} {t} {c′} {f′} {t′} l k b g same e = record {
+pub reached : {s : List ℕ} {faces from count at width rows j : ℕ} {c f z c′ f′ z′ : List ℕ} → FaceLines s faces from → Tables c f z
+    → Block width (count - at) rows → Gathered s at rows width faces c′ f′ z′ → SameRoom c f z c′ f′ z′ → j ≡ first (overAt width c′) rows
+    → Reached s count at width rows j c′ f′ z′
+reached {s} {faces} {from} {count} {at} {width} {rows} {j} {c} {f} {z} {c′} {f′} {z′} l k b g same e = record {
   block = b;
   room = room-same same (tables-room b k);
   gathered = gathered-all l g;
@@ -61,7 +62,7 @@ module _ {s : List ℕ} {count at width rows j : ℕ} {counts froms tos : List �
   rows-narrow = record { narrow = λ i l. ltb-false width (getD counts i 0) (first-clear (overAt width counts) rows .below i (omega (arith, r .over))) }
 
   -- a row is over only where it is narrow
-  pub over-narrow : {vs rs : List ℕ} → Fillable s count vs rs → at < count → j < rows → width < places
+  pub over-narrow : {t : Lent} → Fillable s count t → at < count → j < rows → width < places
   over-narrow f h l =
       omega (arith, over-here, row-count (r .gathered) l, f .most (at + j) (omega (arith, r .block .within)))
     where
@@ -70,11 +71,11 @@ module _ {s : List ℕ} {count at width rows j : ℕ} {counts froms tos : List �
           ltb-true width (getD counts j 0)
           (subst (λ i. overAt width counts i ≡ true) (sym (r .over)) (first-at (overAt width counts) rows (omega (arith, r .over))))
 
-  module _ {width′ : ℕ} {vs rs vs′ rs′ : List ℕ} (h : at < count) (w : Width width) (w′ : Width width′) (p : Filled s at j vs rs vs′ rs′) where
-    filled-here : Filled s at (at + j - at) vs rs vs′ rs′
-    filled-here = let e : at + j - at ≡ j = omega arith in subst (λ i. Filled s at i vs rs vs′ rs′) (sym e) p
+  module _ {width′ : ℕ} {t t′ : Lent} (h : at < count) (w : Width width) (w′ : Width width′) (p : Filled s at j t t′) where
+    filled-here : Filled s at (at + j - at) t t′
+    filled-here = let e : at + j - at ≡ j = omega arith in subst (λ i. Filled s at i t t′) (sym e) p
 
-    pub stepped-full : rows ≤ j → Stepped s count at width (at + j) width′ vs rs vs′ rs′
+    pub stepped-full : rows ≤ j → Stepped s count at width (at + j) width′ t t′
     unfolding ahead
     stepped-full l = record {
       wide = w′;
@@ -84,7 +85,7 @@ module _ {s : List ℕ} {count at width rows j : ℕ} {counts froms tos : List �
       nearer = omega (arith, w .high, w′ .high, r .block .some (omega arith), rows-within h);
     }
 
-    pub stepped-over : width < width′ → Stepped s count at width (at + j) width′ vs rs vs′ rs′
+    pub stepped-over : width < width′ → Stepped s count at width (at + j) width′ t t′
     unfolding ahead
     stepped-over l = record {
       wide = w′;

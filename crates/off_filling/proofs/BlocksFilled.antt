@@ -4,7 +4,8 @@ use mathlib.Core.List.{List}
 use Prim.Native.Nat.{ℕ, _-_, _≤_}
 use native.Mathlib.Nat.{zero-add}
 use native.Mathlib.Omega.{arith}
-use Rattle.meshfile.proofs.Blocks.{put-length}
+use Rattle.rings.specs.Table.{Lent}
+use Rattle.file_format.proofs.Blocks.{put-length}
 use Rattle.off_gather.specs.Gathering.{SameRoom}
 use Rattle.off_gather.proofs.Gathering.{same-none, same-more}
 use Rattle.off_blocks.specs.Blocks.{leastWidth, Width}
@@ -12,13 +13,13 @@ use Rattle.off_filling.specs.Filling.{Fillable, Filled, Stepped}
 use Rattle.off_filling.proofs.RowsFilled.{filled-none, filled-then, filled-all}
 
 -- the vertices below `at` are written
-pub record Passed (s : List ℕ) (count at width : ℕ) (c₀ f₀ t₀ vs₀ rs₀ c f t vs rs : List ℕ) : Type 0 where
+pub record Passed (s : List ℕ) (count at width : ℕ) (c₀ f₀ z₀ : List ℕ) (t₀ : Lent) (c f z : List ℕ) (t : Lent) : Type 0 where
   pub within : at ≤ count
   pub wide : Width width
-  pub same : SameRoom c₀ f₀ t₀ c f t
-  pub filled : Filled s 0 at vs₀ rs₀ vs rs
+  pub same : SameRoom c₀ f₀ z₀ c f z
+  pub filled : Filled s 0 at t₀ t
 
-pub passed-none : {s : List ℕ} {count : ℕ} {c f t vs rs : List ℕ} → Passed s count 0 leastWidth c f t vs rs c f t vs rs
+pub passed-none : {s : List ℕ} {count : ℕ} {c f z : List ℕ} {t : Lent} → Passed s count 0 leastWidth c f z t c f z t
 passed-none {s} = record {
   within = omega arith;
   wide = record { low = omega arith; high = omega arith };
@@ -26,8 +27,8 @@ passed-none {s} = record {
   filled = filled-none s (omega arith) (omega arith);
 }
 
-module _ {s : List ℕ} {count at width : ℕ} {c₀ f₀ t₀ vs₀ rs₀ c f t vs rs : List ℕ} (p : Passed s count at width c₀ f₀ t₀ vs₀ rs₀ c f t vs rs) where
-  pub passed-fillable : Fillable s count vs₀ rs₀ → Fillable s count vs rs
+module _ {s : List ℕ} {count at width : ℕ} {c₀ f₀ z₀ : List ℕ} {t₀ : Lent} {c f z : List ℕ} {t : Lent} (p : Passed s count at width c₀ f₀ z₀ t₀ c f z t) where
+  pub passed-fillable : Fillable s count t₀ → Fillable s count t
   passed-fillable k = record {
     count-is = k .count-is;
     few = k .few;
@@ -38,16 +39,16 @@ module _ {s : List ℕ} {count at width : ℕ} {c₀ f₀ t₀ vs₀ rs₀ c f t
     };
   }
 
-  pub passed-more : {at′ width′ : ℕ} {c′ f′ t′ vs′ rs′ : List ℕ} → Fillable s count vs₀ rs₀ → Stepped s count at width at′ width′ vs rs vs′ rs′
-      → SameRoom c f t c′ f′ t′
-      → Passed s count at′ width′ c₀ f₀ t₀ vs₀ rs₀ c′ f′ t′ vs′ rs′
-  passed-more {at′} {width′} {c′} {f′} {t′} {vs′} {rs′} k q same = record {
+  pub passed-more : {at′ width′ : ℕ} {c′ f′ z′ : List ℕ} {t′ : Lent} → Fillable s count t₀ → Stepped s count at width at′ width′ t t′
+      → SameRoom c f z c′ f′ z′
+      → Passed s count at′ width′ c₀ f₀ z₀ t₀ c′ f′ z′ t′
+  passed-more {at′} {width′} {c′} {f′} {z′} {t′} k q same = record {
     within = q .within;
     wide = q .wide;
     same = same-more (p .same) same;
     filled = filled-all s (omega (arith, q .further)) (omega (arith, q .further))
-        (filled-then s k (omega (arith, p .within)) (p .filled) (subst (λ v. Filled s v (at′ - at) vs rs vs′ rs′) (sym (zero-add at)) (q .filled)));
+        (filled-then s k (omega (arith, p .within)) (p .filled) (subst (λ v. Filled s v (at′ - at) t t′) (sym (zero-add at)) (q .filled)));
   }
 
-  pub passed-all : count ≤ at → Filled s 0 count vs₀ rs₀ vs rs
+  pub passed-all : count ≤ at → Filled s 0 count t₀ t
   passed-all h = filled-all s (p .within) h (p .filled)

@@ -7,13 +7,14 @@ use native.Mathlib.Nat.{le-antisymm}
 use native.Mathlib.Numerals.{add-one}
 use native.Mathlib.Omega.{arith}
 use lib.ListN.{length, getD, set, replicate}
+use Rattle.mesh.specs.Limits.{placeBound, nullVertex}
 use Rattle.mesh.specs.Ring.{has, place}
 use Rattle.mesh.proofs.First.{first-le}
 use Rattle.rings.specs.Table.{put, padded}
 use Rattle.rings.proofs.Blocks.{row-padded}
 use Rattle.rings.proofs.Tables.{length-padded}
-use Rattle.meshfile.specs.Blocks.{Put}
-use Rattle.meshfile.proofs.Blocks.{put-none, put-one, put-length, then, put-is}
+use Rattle.file_format.specs.Blocks.{Put}
+use Rattle.file_format.proofs.Blocks.{put-none, put-one, put-length, then, put-is}
 use Rattle.off_rings.specs.Faces.{steps, trail}
 use Rattle.off_rings.specs.Fans.{follower, smallest, fanRing}
 use Rattle.off_rings.proofs.Trails.{steps-suc, steps-none, trail-length}
@@ -36,7 +37,7 @@ module _ (n : ℕ) (from to : List ℕ) where
   -- k numbers of the walk were written, and x comes next
   pub record Walked (old : List ℕ) (at : ℕ) (new : List ℕ) (x k : ℕ) : Type 0 where
     pub here : x ≡ steps (follower n from to) (smallest n from to) k
-    pub small : x < 65536
+    pub small : x < placeBound
     pub same : length new ≡ length old
     pub written : Put old at (trail (follower n from to) (smallest n from to) k) new
 
@@ -49,15 +50,15 @@ module _ (n : ℕ) (from to : List ℕ) where
     written = put-none l;
   }
 
-  follower-small : n ≤ 1024 → ((i : ℕ) → getD to i 0 < 65536) → (x : ℕ) → follower n from to x < 65536
+  follower-small : n ≤ 1024 → ((i : ℕ) → getD to i 0 < placeBound) → (x : ℕ) → follower n from to x < placeBound
   unfolding follower
   follower-small h g x = go (has x from)
     where
-      go : (t : Bool) → cond t (getD to (place x from) 0) n < 65536
+      go : (t : Bool) → cond t (getD to (place x from) 0) n < placeBound
       go true = g (place x from)
       go false = omega arith
 
-  pub walked-more : {old new : List ℕ} {at x y k : ℕ} → n ≤ 1024 → ((i : ℕ) → getD to i 0 < 65536) → at + k < length old
+  pub walked-more : {old new : List ℕ} {at x y k : ℕ} → n ≤ 1024 → ((i : ℕ) → getD to i 0 < placeBound) → at + k < length old
       → Walked old at new x k → y ≡ follower n from to x → Walked old at (set new (at + k) x) y (k + 1)
   walked-more {old} {new} {at} {x} {y} {k} h g l w e =
       let f : ℕ → ℕ = follower n from to in
@@ -71,7 +72,7 @@ module _ (n : ℕ) (from to : List ℕ) where
       }
 
   pub walked-all : {old new end : List ℕ} {at x k : ℕ} → length from ≤ 32 → at + 32 ≤ length old → k ≤ length from → length from ≤ k → Walked old at new x k
-      → end ≡ put new (at + length from) (replicate (32 - length from) 65535) → Put old at (padded (fanRing n from to)) end
+      → end ≡ put new (at + length from) (replicate (32 - length from) nullVertex) → Put old at (padded (fanRing n from to)) end
   unfolding fanRing
   walked-all {old} {new} {end} {at} {x} {k} few room a b w e =
       let ring : List ℕ = fanRing n from to in
@@ -80,7 +81,7 @@ module _ (n : ℕ) (from to : List ℕ) where
       record {
         fits = omega (arith, length-padded ring (omega arith));
         is = e
-            ∙ ap (λ j. put new (at + j) (replicate (32 - j) 65535)) (sym long)
-            ∙ ap (λ l. put l (at + length ring) (replicate (32 - length ring) 65535)) (all .is)
+            ∙ ap (λ j. put new (at + j) (replicate (32 - j) nullVertex)) (sym long)
+            ∙ ap (λ l. put l (at + length ring) (replicate (32 - length ring) nullVertex)) (all .is)
             ∙ row-padded old at ring room (omega arith);
       }

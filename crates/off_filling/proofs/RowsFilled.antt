@@ -5,11 +5,11 @@ use Prim.Native.Nat.{ℕ, _+_, _*_, _≤_, _<_}
 use native.Mathlib.Nat.{add-zero, le-antisymm}
 use native.Mathlib.Omega.{arith}
 use lib.ListN.{length, getD, set, take, drop}
-use Rattle.rings.specs.Table.{padded}
+use Rattle.rings.specs.Table.{Lent, lent, padded}
 use Rattle.rings.proofs.Tables.{length-padded}
-use Rattle.meshfile.specs.Blocks.{Put, gatherFrom}
-use Rattle.meshfile.proofs.Gathered.{length-from, length-rows-below}
-use Rattle.meshfile.proofs.Blocks.{put-one, put-length, put-is, from-none, from-next}
+use Rattle.file_format.specs.Blocks.{Put, gatherFrom}
+use Rattle.file_format.proofs.Gathered.{length-from, length-rows-below}
+use Rattle.file_format.proofs.Blocks.{put-one, put-length, put-is, from-none, from-next}
 use Rattle.off_rings.specs.Faces.{facesAt, faceRing, after, least}
 use Rattle.off_rings.specs.Fans.{befores, behinds, fanRing}
 use Rattle.off_rings.proofs.Trails.{trail-length}
@@ -35,7 +35,7 @@ module _ (s : List ℕ) where
   ring-is : (v count : ℕ) (from to : List ℕ) → count ≡ textCount s → from ≡ befores (textFace s) v (textFaces s) → to ≡ behinds (textFace s) v (textFaces s)
       → fanRing count from to ≡ textRing s v
   unfolding textRing
-  ring-is v count from to c f t = rw (c, f, t) (sym (ring-fan (textCount s) (textFaces s) (textFace s) v))
+  ring-is v count from to c f z = rw (c, f, z) (sym (ring-fan (textCount s) (textFaces s) (textFace s) v))
 
   -- the rows of some vertices that have at most 32 faces each
   rows-length : (v many : ℕ) → ((j : ℕ) → j < many → facesAt (textCount s) (textFaces s) (textFace s) (v + j) ≤ 32)
@@ -45,10 +45,10 @@ module _ (s : List ℕ) where
       length-rows-below (λ j. ringRow s (v + j)) 32 many
       (λ j l. length-padded (textRing s (v + j)) (omega (arith, ring-length (v + j), h j l)))
 
-  pub filled-none : {v : ℕ} {vs rs : List ℕ} → v ≤ length vs → v * 32 ≤ length rs → Filled s v 0 vs rs vs rs
+  pub filled-none : {v : ℕ} {t : Lent} → v ≤ length (t .valences) → v * 32 ≤ length (t .rings) → Filled s v 0 t t
   filled-none {v} a b = record { valences = from-none (valenceRow s) v a; rings = from-none (ringRow s) v b }
 
-  filled-one : {v : ℕ} {vs rs vs′ rs′ : List ℕ} → Put vs v (valenceRow s v) vs′ → Put rs (v * 32) (ringRow s v) rs′ → Filled s v 1 vs rs vs′ rs′
+  filled-one : {v : ℕ} {t t′ : Lent} → Put (t .valences) v (valenceRow s v) (t′ .valences) → Put (t .rings) (v * 32) (ringRow s v) (t′ .rings) → Filled s v 1 t t′
   unfolding gatherFrom
   filled-one {v} a b = record {
     valences = put-is (ap (valenceRow s) (sym (add-zero v))) a;
@@ -56,32 +56,32 @@ module _ (s : List ℕ) where
   }
 
   -- some vertices, and then others behind them
-  pub filled-then : {v a b count : ℕ} {vs rs vs′ rs′ vs″ rs″ : List ℕ} → Fillable s count vs rs → v + a ≤ count → Filled s v a vs rs vs′ rs′
-      → Filled s (v + a) b vs′ rs′ vs″ rs″ → Filled s v (a + b) vs rs vs″ rs″
+  pub filled-then : {v a b count : ℕ} {t t′ t″ : Lent} → Fillable s count t → v + a ≤ count → Filled s v a t t′
+      → Filled s (v + a) b t′ t″ → Filled s v (a + b) t t″
   filled-then {v} {a} {b} {count} f h p q = record {
     valences = from-next (valenceRow s) v a b (p .valences) (q .valences) (omega (arith, length-from (valenceRow s) 1 (λ i. refl) v a));
     rings = from-next (ringRow s) v a b (p .rings) (q .rings) (omega (arith, rows-length v a (λ j l. f .most (v + j) (omega arith))));
   }
 
-  module _ {count first rows width j : ℕ} {counts froms tos vs₀ rs₀ vs rs : List ℕ} (f : Fillable s count vs₀ rs₀) (h : first + rows ≤ count)
+  module _ {count first rows width j : ℕ} {counts froms tos : List ℕ} {t₀ t : Lent} (f : Fillable s count t₀) (h : first + rows ≤ count)
       (r : Room rows width counts froms tos) (g : Gathered s first rows width (textFaces s) counts froms tos) (w : Narrow width rows counts)
-      (l : j < rows) (p : Filled s first j vs₀ rs₀ vs rs) where
+      (l : j < rows) (p : Filled s first j t₀ t) where
     pub valence-small : getD counts j 0 ≤ 32
     valence-small = omega (arith, row-count g l, f .most (first + j) (omega arith), f .count-is)
 
-    pub valence-there : first + j < length vs
+    pub valence-there : first + j < length (t .valences)
     valence-there = omega (arith, put-length (p .valences), f .room .valences)
 
-    pub row-there : (first + j) * 32 + 32 ≤ length rs
+    pub row-there : (first + j) * 32 + 32 ≤ length (t .rings)
     row-there = omega (arith, put-length (p .rings), f .room .rings)
 
     pub filled-row : {from to rs′ : List ℕ} → from ≡ take (getD counts j 0) (drop (j * width) froms) → to ≡ take (getD counts j 0) (drop (j * width) tos)
-        → Put rs ((first + j) * 32) (padded (fanRing count from to)) rs′ → Filled s first (j + 1) vs₀ rs₀ (set vs (first + j) (getD counts j 0)) rs′
+        → Put (t .rings) ((first + j) * 32) (padded (fanRing count from to)) rs′ → Filled s first (j + 1) t₀ (lent (set (t .valences) (first + j) (getD counts j 0)) rs′)
     filled-row {from} {to} {rs′} a b q =
         let ring : fanRing count from to ≡ textRing s (first + j) =
         ring-is (first + j) count from to (f .count-is) (a ∙ from-row g l r (w .narrow j l)) (b ∙ to-row g l r (w .narrow j l)) in
         filled-then f (omega arith) p
         (filled-one (put-is (ap (λ k. k ∷ []) (row-count g l ∙ sym (ring-length (first + j)))) (put-one valence-there)) (put-is (ap padded ring) q))
 
-  pub filled-all : {v j k : ℕ} {vs rs vs′ rs′ : List ℕ} → j ≤ k → k ≤ j → Filled s v j vs rs vs′ rs′ → Filled s v k vs rs vs′ rs′
-  filled-all {v} {j} {k} {vs} {rs} {vs′} {rs′} a b p = subst (λ i. Filled s v i vs rs vs′ rs′) (le-antisymm a b) p
+  pub filled-all : {v j k : ℕ} {t t′ : Lent} → j ≤ k → k ≤ j → Filled s v j t t′ → Filled s v k t t′
+  filled-all {v} {j} {k} {t} {t′} a b p = subst (λ i. Filled s v i t t′) (le-antisymm a b) p

@@ -1,3 +1,4 @@
+-- For inside.
 -- What the functions that write the rings of a text rely on and promise.
 -- Assumes nothing.
 use mathlib.Core.Path.{_≡_}
@@ -7,9 +8,9 @@ use Prim.Native.Nat.{ℕ, _-_, _*_, _≤_, _<_}
 use lib.Dec.{ltb}
 use lib.ListN.{length, getD}
 use Rattle.mesh.specs.Limits.{mostCount, mostValence}
-use Rattle.rings.specs.Table.{padded}
+use Rattle.rings.specs.Table.{Lent, padded}
 use Rattle.rings.specs.Accepts.{Room}
-use Rattle.meshfile.specs.Blocks.{Put, gatherFrom}
+use Rattle.file_format.specs.Blocks.{Put, gatherFrom}
 use Rattle.off_rings.specs.Faces.{facesAt}
 use Rattle.off_text.specs.Layout.{textCount, textFaces, textFace}
 use Rattle.off_text.specs.ReadOff.{textRing}
@@ -25,11 +26,11 @@ pub record Narrow (width rows : ℕ) (counts : List ℕ) : Type 0 where
 
 module _ (s : List ℕ) where
   -- V is at most 1,024, no vertex has more than 32 faces, and the tables have rows for all
-  pub record Fillable (count : ℕ) (vs rs : List ℕ) : Type 0 where
+  pub record Fillable (count : ℕ) (t : Lent) : Type 0 where
     pub count-is : count ≡ textCount s
     pub few : count ≤ mostCount
     pub most : (v : ℕ) → v < count → facesAt (textCount s) (textFaces s) (textFace s) v ≤ mostValence
-    pub room : Room count vs rs
+    pub room : Room count t
 
   -- the valence of v, and its row
   abbrev pub valenceRow : ℕ → List ℕ
@@ -39,14 +40,14 @@ module _ (s : List ℕ) where
   ringRow v = padded (textRing s v)
 
   -- the valences and rows of so many vertices were written, from vertex v on
-  pub record Filled (v many : ℕ) (vs rs vs′ rs′ : List ℕ) : Type 0 where
-    pub valences : Put vs v (gatherFrom valenceRow v many) vs′
-    pub rings : Put rs (v * mostValence) (gatherFrom ringRow v many) rs′
+  pub record Filled (v many : ℕ) (t t′ : Lent) : Type 0 where
+    pub valences : Put (t .valences) v (gatherFrom valenceRow v many) (t′ .valences)
+    pub rings : Put (t .rings) (v * mostValence) (gatherFrom ringRow v many) (t′ .rings)
 
   -- a block was written, and there is less ahead
-  pub record Stepped (count at width at′ width′ : ℕ) (vs rs vs′ rs′ : List ℕ) : Type 0 where
+  pub record Stepped (count at width at′ width′ : ℕ) (t t′ : Lent) : Type 0 where
     pub wide : Width width′
     pub further : at ≤ at′
     pub within : at′ ≤ count
-    pub filled : Filled at (at′ - at) vs rs vs′ rs′
+    pub filled : Filled at (at′ - at) t t′
     pub nearer : ahead count at′ width′ < ahead count at width

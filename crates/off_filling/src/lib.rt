@@ -4,14 +4,16 @@ ghost use Prim.Native.Nat.{_+_, _*_, _≤_, _<_};
 ghost use lib.ListN.{length};
 ghost use Rattle.mesh.specs.Limits.{mostCount, mostValence};
 ghost use Rattle.mesh.specs.Search.{first as least};
-ghost use Rattle.rings.specs.Table.{padded};
-ghost use Rattle.meshfile.specs.Blocks.{Put};
+ghost use Rattle.rings.specs.Table.{lent, padded};
+ghost use Rattle.file_format.specs.Blocks.{Put};
 ghost use Rattle.off_rings.specs.Fans.{fanRing};
 ghost use Rattle.off_text.specs.Layout.{textFaces};
 ghost use Rattle.off_fans.specs.Rows.{Room};
 ghost use Rattle.off_gather.specs.Gathering.{FaceLines, Gathered, SameRoom};
 ghost use Rattle.off_blocks.specs.Blocks.{Width, Tables};
 ghost use Rattle.off_filling.specs.Filling.{overAt, Narrow, Fillable, Filled, Stepped};
+use mesh::limits::MOST_VALENCE;
+use mesh::limits::Vertex;
 use off_blocks::LEAST_WIDTH;
 use off_blocks::narrower;
 use off_blocks::rows_of;
@@ -20,7 +22,6 @@ use off_fans::row_of;
 use off_gather::gather_faces;
 use off_walk::follow;
 use off_walk::smallest_of;
-use rings::MOST_VALENCE;
 use rings::table::write_unused;
 
 // What is known behind a block: the vertex reached, and the width of the next rows.
@@ -30,7 +31,7 @@ struct Step {
 }
 
 // The row of v, from what comes before it and behind it in its faces.
-fn fill_row(from: &[u16], to: &[u16], count: usize, rings: &mut [u16], v: usize)
+fn fill_row(from: &[Vertex], to: &[Vertex], count: usize, rings: &mut [Vertex], v: usize)
     requires { ⌜ length (now from) ≡ length (now to) ⌝ }
     requires { ⌜ length (now from) ≤ mostValence ⌝ }
     requires { ⌜ count ≤ mostCount ⌝ }
@@ -42,7 +43,7 @@ fn fill_row(from: &[u16], to: &[u16], count: usize, rings: &mut [u16], v: usize)
     let mut x = smallest_of(from, to, count);
     let mut k = 0;
     while k < n {
-        rings[a + k] = x as u16;
+        rings[a + k] = x as Vertex;
         x = follow(from, to, count, x);
         k += 1;
     }
@@ -57,17 +58,17 @@ fn fill_rows(
     rows: usize,
     width: usize,
     counts: &[usize],
-    froms: &[u16],
-    tos: &[u16],
+    froms: &[Vertex],
+    tos: &[Vertex],
     valences: &mut [u16],
-    rings: &mut [u16],
+    rings: &mut [Vertex],
 )
-    requires { ⌜ Fillable (now text) count (now valences) (now rings) ⌝ }
+    requires { ⌜ Fillable (now text) count (lent (now valences) (now rings)) ⌝ }
     requires { ⌜ first + rows ≤ count ⌝ }
     requires { ⌜ Room rows width (now counts) (now froms) (now tos) ⌝ }
     requires { ⌜ Gathered (now text) first rows width (textFaces (now text)) (now counts) (now froms) (now tos) ⌝ }
     requires { ⌜ Narrow width rows (now counts) ⌝ }
-    ensures { λ r. ⌜ Filled (now (text .entry)) first rows (now (valences .entry)) (now (rings .entry)) (now (valences .exit)) (now (rings .exit)) ⌝ }
+    ensures { λ r. ⌜ Filled (now (text .entry)) first rows (lent (now (valences .entry)) (now (rings .entry))) (lent (now (valences .exit)) (now (rings .exit))) ⌝ }
 {
     let mut j = 0;
     while j < rows {
@@ -108,18 +109,18 @@ fn fill_block(
     at: usize,
     width: usize,
     counts: &mut [usize],
-    froms: &mut [u16],
-    tos: &mut [u16],
+    froms: &mut [Vertex],
+    tos: &mut [Vertex],
     valences: &mut [u16],
-    rings: &mut [u16],
+    rings: &mut [Vertex],
 ) -> Step
     requires { ⌜ FaceLines (now text) faces from ⌝ }
     requires { ⌜ Tables (now counts) (now froms) (now tos) ⌝ }
-    requires { ⌜ Fillable (now text) count (now valences) (now rings) ⌝ }
+    requires { ⌜ Fillable (now text) count (lent (now valences) (now rings)) ⌝ }
     requires { ⌜ Width width ⌝ }
     requires { ⌜ at < count ⌝ }
     ensures { λ r. ⌜ Stepped (now (text .entry)) count at width (r .at) (r .width)
-        (now (valences .entry)) (now (rings .entry)) (now (valences .exit)) (now (rings .exit)) ⌝ }
+        (lent (now (valences .entry)) (now (rings .entry))) (lent (now (valences .exit)) (now (rings .exit))) ⌝ }
     ensures { λ r. ⌜ SameRoom (now (counts .entry)) (now (froms .entry)) (now (tos .entry)) (now (counts .exit)) (now (froms .exit)) (now (tos .exit)) ⌝ }
 {
     let rows = rows_of(width, count - at);
@@ -156,15 +157,15 @@ pub fn fill_rings(
     faces: usize,
     count: usize,
     counts: &mut [usize],
-    froms: &mut [u16],
-    tos: &mut [u16],
+    froms: &mut [Vertex],
+    tos: &mut [Vertex],
     valences: &mut [u16],
-    rings: &mut [u16],
+    rings: &mut [Vertex],
 )
     requires { ⌜ FaceLines (now text) faces from ⌝ }
     requires { ⌜ Tables (now counts) (now froms) (now tos) ⌝ }
-    requires { ⌜ Fillable (now text) count (now valences) (now rings) ⌝ }
-    ensures { λ r. ⌜ Filled (now (text .entry)) 0 count (now (valences .entry)) (now (rings .entry)) (now (valences .exit)) (now (rings .exit)) ⌝ }
+    requires { ⌜ Fillable (now text) count (lent (now valences) (now rings)) ⌝ }
+    ensures { λ r. ⌜ Filled (now (text .entry)) 0 count (lent (now (valences .entry)) (now (rings .entry))) (lent (now (valences .exit)) (now (rings .exit))) ⌝ }
 {
     let mut at = 0;
     let mut width = LEAST_WIDTH;

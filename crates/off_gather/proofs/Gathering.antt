@@ -10,6 +10,7 @@ use native.Mathlib.Omega.{arith}
 use lib.Dec.{eqb}
 use lib.ListN.{length, length-append}
 use borrow.Author.Tests.{eqb-true, not-true, eq-eqb, ne-eqb}
+use Rattle.mesh.specs.Limits.{placeBound}
 use Rattle.mesh.proofs.Lists.{eq-split}
 use Rattle.off_numbers.specs.Text.{byteAt, valueAt, afterAt, isNumber}
 use Rattle.off_numbers.specs.Scanned.{NumberThere}
@@ -222,7 +223,7 @@ gathered-more s first rows width i at a b c next e good k g n₁ n₂ n₃ =
 
 -- ---- what the functions know
 
-pub small-enough : {s : List ℕ} {i at a b c next : ℕ} → FaceLine s i at → Cornered s at a b c next → (a < 65536) × ((b < 65536) × (c < 65536))
+pub small-enough : {s : List ℕ} {i at a b c next : ℕ} → FaceLine s i at → Cornered s at a b c next → (a < placeBound) × ((b < placeBound) × (c < placeBound))
 small-enough l k = (omega (arith, l .few, k .a-small), (omega (arith, l .few, k .b-small), omega (arith, l .few, k .c-small)))
 
 pub face-line : {s : List ℕ} {m from i at : ℕ} → FaceLines s m from → i < m → at ≡ faceLineAt s i → FaceLine s i at

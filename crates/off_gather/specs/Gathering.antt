@@ -1,3 +1,4 @@
+-- For inside.
 -- What the functions that gather the faces of a text rely on and promise.
 -- Assumes nothing.
 use mathlib.Core.Path.{_≡_}

@@ -5,6 +5,7 @@ ghost use Prim.Native.Nat.{_+_};
 ghost use Rattle.off_text.specs.Layout.{isFace, faceLineAt};
 ghost use Rattle.off_fans.specs.Rows.{Room};
 ghost use Rattle.off_gather.specs.Gathering.{FaceLines, FaceLine, SameRoom, Cornered, Gathered};
+use mesh::limits::Vertex;
 use off_fans::clear;
 use off_fans::note_in;
 use off_known::read_number;
@@ -42,8 +43,8 @@ fn gather_face(
     rows: usize,
     width: usize,
     counts: &mut [usize],
-    froms: &mut [u16],
-    tos: &mut [u16],
+    froms: &mut [Vertex],
+    tos: &mut [Vertex],
 ) -> usize
     requires { ⌜ FaceLine (now text) i at ⌝ }
     requires { ⌜ Room rows width (now counts) (now froms) (now tos) ⌝ }
@@ -68,8 +69,8 @@ pub fn gather_faces(
     rows: usize,
     width: usize,
     counts: &mut [usize],
-    froms: &mut [u16],
-    tos: &mut [u16],
+    froms: &mut [Vertex],
+    tos: &mut [Vertex],
 )
     requires { ⌜ FaceLines (now text) faces from ⌝ }
     requires { ⌜ Room rows width (now counts) (now froms) (now tos) ⌝ }

@@ -1,3 +1,4 @@
+-- For inside.
 -- What the judge of a text's vertices has shown so far, and what it answers.
 -- Assumes nothing.
 use mathlib.Core.Path.{_≡_}

@@ -9,6 +9,9 @@ ghost use Rattle.off_fans.specs.Rows.{Room};
 ghost use Rattle.off_gather.specs.Gathering.{FaceLines, Gathered, SameRoom};
 ghost use Rattle.off_blocks.specs.Blocks.{Tables};
 ghost use Rattle.off_judge.specs.Judging.{unfitAt, unfitFrom, stops, Sofar, Stepped, Judged};
+use mesh::limits::LEAST_VALENCE;
+use mesh::limits::MOST_VALENCE;
+use mesh::limits::Vertex;
 use off_blocks::LEAST_WIDTH;
 use off_blocks::PLACES;
 use off_blocks::narrower;
@@ -17,8 +20,6 @@ use off_blocks::wider;
 use off_fans::row_of;
 use off_gather::gather_faces;
 use off_walk::closes;
-use rings::LEAST_VALENCE;
-use rings::MOST_VALENCE;
 
 // The first vertex whose faces do not close, and the first with an unfit valence; each the number of vertices where there is none.
 pub struct Faults {
@@ -42,8 +43,8 @@ fn stop_row(
     rows: usize,
     width: usize,
     counts: &[usize],
-    froms: &[u16],
-    tos: &[u16],
+    froms: &[Vertex],
+    tos: &[Vertex],
 ) -> usize
     requires { ⌜ count ≡ textCount (now text) ⌝ }
     requires { ⌜ Room rows width (now counts) (now froms) (now tos) ⌝ }
@@ -109,8 +110,8 @@ fn judge_block(
     width: usize,
     known: usize,
     counts: &mut [usize],
-    froms: &mut [u16],
-    tos: &mut [u16],
+    froms: &mut [Vertex],
+    tos: &mut [Vertex],
 ) -> Step
     requires { ⌜ count ≡ textCount (now text) ⌝ }
     requires { ⌜ FaceLines (now text) faces from ⌝ }
@@ -163,8 +164,8 @@ pub fn judge_vertices(
     faces: usize,
     count: usize,
     counts: &mut [usize],
-    froms: &mut [u16],
-    tos: &mut [u16],
+    froms: &mut [Vertex],
+    tos: &mut [Vertex],
 ) -> Faults
     requires { ⌜ count ≡ textCount (now text) ⌝ }
     requires { ⌜ FaceLines (now text) faces from ⌝ }

@@ -13,8 +13,8 @@ use lib.ListN.{length, getD}
 use borrow.Author.Tests.{not-true, not-false, eqb-false, eq-eqb, ne-eqb, ltb-true}
 use Rattle.mesh.proofs.Lists.{lt-split, eq-split}
 use Rattle.mesh.proofs.First.{first-le, first-clear}
-use Rattle.meshfile.specs.Bytes.{coordinateOf}
-use Rattle.meshfile.proofs.Signed.{low, high}
+use Rattle.file_format.specs.Bytes.{coordinateOf}
+use Rattle.file_format.proofs.Signed.{low, high}
 use Rattle.off_numbers.specs.Text.{byteAt, digitAt, noDigit, runAt, valueOf, valueAt, afterAt, isNumber, minusAt, isUnit, unitAt, afterUnit}
 use Rattle.off_numbers.specs.Scanned.{NumberThere, UnitThere}
 use Rattle.off_numbers.proofs.Scanning.{Scan, scan-none, scan-bound, scan-more, digit-range, number-ends, byte-within, and-true}

@@ -1,3 +1,4 @@
+-- For inside.
 -- What the judges of a text's lines find and hand on.
 -- Assumes nothing.
 use mathlib.Core.Path.{_≡_}

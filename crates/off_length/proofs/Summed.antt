@@ -4,6 +4,7 @@ use mathlib.Core.Path.{_≡_, refl, subst}
 use native.Mathlib.Nat.{le-antisymm, mul-suc, mul-le-mul}
 use native.Mathlib.Numerals.{add-one}
 use native.Mathlib.Omega.{arith}
+use Rattle.mesh.specs.Limits.{valenceBound}
 use Rattle.mesh.specs.Search.{sum}
 
 -- the sum of f 0, .., f (v - 1), each at most `most`
@@ -22,5 +23,5 @@ pub summed-all : {f : ℕ → ℕ} {most v size : ℕ} (n : ℕ) → Summed f mo
 summed-all {f} {most} {v} {size} n s a b = subst (λ (k : ℕ). Summed f most k size) (le-antisymm a b) s
 
 -- the digits of a vertex, as often as it has neighbours
-pub corner-most : (valence count : ℕ) → valence < 65536 → count ≤ 20 → valence * count ≤ 1310720
-corner-most valence count h g = omega (arith, mul-le-mul {n₁ = valence} {m₁ = count} {n₂ = 65536} {m₂ = 20} (omega arith) g)
+pub corner-most : (valence count : ℕ) → valence < valenceBound → count ≤ 20 → valence * count ≤ 1310720
+corner-most valence count h g = omega (arith, mul-le-mul {n₁ = valence} {m₁ = count} {n₂ = valenceBound} {m₂ = 20} (omega arith) g)

@@ -4,12 +4,12 @@ use mathlib.Core.List.{List, [], _∷_, _++_}
 use Prim.Native.Nat.{ℕ, zero, suc, _+_, _*_}
 use native.Mathlib.Omega.{arith}
 use lib.IntN.{ℤ}
-use lib.ListN.{length, getD, length-append}
+use lib.ListN.{length, length-append}
 use Rattle.mesh.specs.Search.{sum}
 use Rattle.mesh.specs.Mesh.{Mesh, edges, faces}
 use Rattle.mesh.proofs.Lists.{sum-same}
 use Rattle.rings.specs.Accepts.{Accepts}
-use Rattle.rings.specs.Table.{gather, rows, coordinateAt}
+use Rattle.rings.specs.Table.{Lent, valenceAt, gather, rows, coordinateAt}
 use Rattle.rings.proofs.Rows.{rows-ring, row-length, room-row}
 use Rattle.numerals.specs.Numerals.{blank, newline, digits, number, signed}
 use Rattle.numerals.proofs.Digits.{number-length, signed-length}
@@ -65,18 +65,18 @@ faces-length (f ∷ l) = omega (arith, length-append (faceLine f) (faceLines l),
 
 -- ---- the whole text
 
-corners-length : (n : ℕ) (vs rs : List ℕ) (ps : List ℤ) → Accepts n vs rs ps → tally (atCorners wide) (listed (rows n vs rs)) ≡ cornersLength vs n
+corners-length : (n : ℕ) (t : Lent) (ps : List ℤ) → Accepts n t ps → tally (atCorners wide) (listed (rows n t)) ≡ cornersLength (t .valences) n
 unfolding rows cornersLength
-corners-length n vs rs ps k =
-    corners-counted wide (rows n vs rs) (k .sound)
-    ∙ sum-same _ (λ v. getD vs v 0 * wide v) n (λ v h.
-    ap (λ l. length l * wide v) (rows-ring n vs rs v h) ∙ ap (λ j. j * wide v) (row-length vs rs v (room-row (k .room) h (k .most v h))))
+corners-length n t ps k =
+    corners-counted wide (rows n t) (k .sound)
+    ∙ sum-same _ (λ v. valenceAt t v * wide v) n (λ v h.
+    ap (λ l. length l * wide v) (rows-ring n t v h) ∙ ap (λ j. j * wide v) (row-length t v (room-row (k .room) h (k .most v h))))
 
-pub text-length : (n : ℕ) (vs rs : List ℕ) (ps : List ℤ) → Accepts n vs rs ps
-    → length (textOf (rows n vs rs) (coordinateAt ps)) ≡ textLength n vs ps (edges (rows n vs rs)) (faces (rows n vs rs))
+pub text-length : (n : ℕ) (t : Lent) (ps : List ℤ) → Accepts n t ps
+    → length (textOf (rows n t) (coordinateAt ps)) ≡ textLength n (t .valences) ps (edges (rows n t)) (faces (rows n t))
 unfolding rows textOf textLength pointsLength
-text-length n vs rs ps k =
-    let M : Mesh = rows n vs rs in
+text-length n t ps k =
+    let M : Mesh = rows n t in
     let line : ℕ → List ℕ = λ v. vertexLine (λ axis. coordinateAt ps axis v) in
     let counts : List ℕ = countsLine n (faces M) (edges M) in
     let points : List ℕ = gather line n in
@@ -88,5 +88,5 @@ text-length n vs rs ps k =
       lines-length line n ∙ sum-same _ (pointLength ps) n (λ v h. vertex-length ps v),
       faces-length (listed M),
       listed-count M (k .sound),
-      corners-length n vs rs ps k,
+      corners-length n t ps k,
     )

@@ -1,3 +1,4 @@
+-- For inside.
 -- How many bytes the text of a mesh takes, worked out without its faces: a vertex stands in as many faces as it has neighbours.
 -- Assumes nothing.
 use mathlib.Core.List.{List}

@@ -8,9 +8,9 @@ use native.Mathlib.Omega.{arith}
 use lib.IntN.{ℤ, pos}
 use lib.ListN.{length, getD, set, length-append, length-set}
 use Rattle.rings.specs.Table.{gather, coordinateAt}
-use Rattle.meshfile.specs.Blocks.{Put}
-use Rattle.meshfile.proofs.Blocks.{put-none, put-one, put-length, then}
-use Rattle.meshfile.proofs.Gathered.{gather-split}
+use Rattle.file_format.specs.Blocks.{Put}
+use Rattle.file_format.proofs.Blocks.{put-none, put-one, put-length, then}
+use Rattle.file_format.proofs.Gathered.{gather-split}
 use Rattle.numerals.specs.Numerals.{blank, newline, number, signed}
 use Rattle.numerals.specs.Wrote.{Wrote}
 use Rattle.off_text.specs.WriteOff.{word, countsLine, vertexLine, faceLine}

@@ -1,3 +1,4 @@
+-- For inside.
 -- What a function that writes a part of a text promises, and the line of one vertex of the tables.
 -- Assumes nothing.
 use mathlib.Core.Path.{_≡_}
@@ -6,7 +7,7 @@ use Prim.Native.Nat.{ℕ, _+_}
 use lib.IntN.{ℤ}
 use lib.ListN.{length}
 use Rattle.rings.specs.Table.{coordinateAt}
-use Rattle.meshfile.specs.Blocks.{Put}
+use Rattle.file_format.specs.Blocks.{Put}
 use Rattle.off_text.specs.WriteOff.{vertexLine}
 
 -- the block stands in the text from a place on, everything else is as it was, and the block ends before place `end`

@@ -2,7 +2,7 @@
 ghost use Prim.Native.Nat.{_+_, _*_, _≤_};
 ghost use lib.ListN.{length};
 ghost use Rattle.rings.specs.Table.{gather};
-ghost use Rattle.meshfile.specs.Blocks.{Put};
+ghost use Rattle.file_format.specs.Blocks.{Put};
 ghost use Rattle.off_text.specs.WriteOff.{word, countsLine, faceLine};
 ghost use Rattle.off_lines.specs.Written.{Written, lineOf};
 use numerals::BLANK;

@@ -1,3 +1,4 @@
+-- For inside.
 -- What the scanner of digits promises, and what those rely on who read a number again.
 -- Assumes nothing.
 use mathlib.Core.Path.{_≡_}

@@ -1,3 +1,4 @@
+-- To be believed.
 -- Decimal numbers in a text (order 4): whole numbers with no plus sign, no -0 and no zeros in front, each with the byte behind it.
 -- Assumes nothing.
 use mathlib.Core.Bool.{Bool, cond, not, _&&_}

@@ -12,8 +12,8 @@ use Rattle.mesh.proofs.First.{Clear, clear-none, clear-more}
 use Rattle.units.specs.Coordinate.{beyond}
 use Rattle.rings.specs.Table.{pointRows}
 use Rattle.rings.proofs.Tables.{length-gather}
-use Rattle.meshfile.specs.Blocks.{Put}
-use Rattle.meshfile.proofs.Blocks.{put-none, put-one, put-length, then, rows-next, rows-all}
+use Rattle.file_format.specs.Blocks.{Put}
+use Rattle.file_format.proofs.Blocks.{put-none, put-one, put-length, then, rows-next, rows-all}
 use Rattle.off_numbers.specs.Text.{isUnit, unitAt, afterUnit}
 use Rattle.off_numbers.specs.Scanned.{UnitThere}
 use Rattle.off_numbers.proofs.Scanning.{and-true}

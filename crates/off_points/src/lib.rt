@@ -4,11 +4,11 @@ ghost use Prim.Native.Nat.{_+_, _*_, _≤_};
 ghost use lib.ListN.{length};
 ghost use Rattle.mesh.specs.Search.{first};
 ghost use Rattle.rings.specs.Table.{pointRows};
-ghost use Rattle.meshfile.specs.Blocks.{Put};
+ghost use Rattle.file_format.specs.Blocks.{Put};
 ghost use Rattle.off_text.specs.Layout.{vertexAt, textPoint};
 ghost use Rattle.off_text.specs.ReadOff.{textBeyond};
 ghost use Rattle.off_points.specs.Points.{VertexLines, VertexLine, PointRead, pointRow};
-use mesh_check::positions::is_beyond;
+use check_mesh::positions::is_beyond;
 use off_known::read_unit;
 
 // A point, and where the next line begins.

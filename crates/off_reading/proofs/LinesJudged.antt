@@ -12,11 +12,11 @@ use lib.ListN.{replicate, length-replicate}
 use borrow.Author.Tests.{ltb-false}
 use Rattle.mesh.specs.Search.{first}
 use Rattle.mesh.proofs.First.{first-same, first-le, first-clear, or-false}
-use Rattle.rings.specs.Table.{put, valenceRows, ringRows}
-use Rattle.rings.specs.declared.Refusal.the-variants.{OpenRing, ImproperRing, TooFar}
+use Rattle.rings.specs.Table.{Lent, put, valenceRows, ringRows}
+use Rattle.rings.specs.declared.Refusal.the-variants.{OpenRing, RingImproper, ControlCoordinate}
 use Rattle.rings.specs.declared.Verdict.the-variants.{Accepted, Refused}
 use Rattle.rings.proofs.Verdicts.{at-hit, at-pass}
-use Rattle.meshfile.proofs.Gathered.{from-start}
+use Rattle.file_format.proofs.Gathered.{from-start}
 use Rattle.off_rings.specs.Faces.{facesAt, twisted, unfitFaces}
 use Rattle.off_rings.proofs.Turns.{twisted-open}
 use Rattle.off_text.specs.Layout.{textCount, textFaces, textFace}
@@ -35,7 +35,7 @@ tables-long = record {
   tos-long = omega (arith, length-replicate {A = ℕ} 1024 0);
 }
 
-module _ {s : List ℕ} {count faces points corners : ℕ} {vs rs : List ℕ} {ps : List ℤ} (L : Lines s count faces points corners vs rs ps) where
+module _ {s : List ℕ} {count faces points corners : ℕ} {t : Lent} {ps : List ℤ} (L : Lines s count faces points corners t ps) where
   module _ {opens fault : ℕ} (J : Judged s opens fault) where
     open-is : opens ≡ first (twisted (textCount s) (textFaces s) (textFace s)) (textCount s)
     open-is =
@@ -54,7 +54,7 @@ module _ {s : List ℕ} {count faces points corners : ℕ} {vs rs : List ℕ} {p
       fault-is : fault ≡ first (unfitFaces (textCount s) (textFaces s) (textFace s)) (textCount s)
       fault-is = J .fault-is all-close
 
-      pub unfit-refuses : fault < count → Refused (ImproperRing fault) ≡ facesVerdict s
+      pub unfit-refuses : fault < count → Refused (RingImproper fault) ≡ facesVerdict s
       unfolding facesVerdict
       unfit-refuses h = at-hit _ _ _ _ _ fault-is (omega (arith, L .count-is)) ∙ sym (at-pass _ _ _ _ _ open-is (omega (arith, L .count-is)))
 
@@ -62,7 +62,7 @@ module _ {s : List ℕ} {count faces points corners : ℕ} {vs rs : List ℕ} {p
         rest : {far : ℕ} → far ≡ first (textBeyond s) count → far ≡ first (textBeyond s) (textCount s)
         rest {far} e = subst (λ n. far ≡ first (textBeyond s) n) (L .count-is) e
 
-        pub far-refuses : {far : ℕ} → far ≡ first (textBeyond s) count → far < count → Refused (TooFar far) ≡ facesVerdict s
+        pub far-refuses : {far : ℕ} → far ≡ first (textBeyond s) count → far < count → Refused (ControlCoordinate far) ≡ facesVerdict s
         unfolding facesVerdict
         far-refuses e h =
             at-hit _ _ _ _ _ (rest e) (omega (arith, L .count-is))
@@ -78,7 +78,7 @@ module _ {s : List ℕ} {count faces points corners : ℕ} {vs rs : List ℕ} {p
             ∙ at-pass _ _ _ _ _ (rest e) (omega (arith, L .count-is)))
 
         -- no vertex has more than 32 faces
-        pub fillable : Fillable s count vs rs
+        pub fillable : Fillable s count t
         unfolding unfitFaces
         fillable = record {
           count-is = L .count-is;
@@ -94,11 +94,11 @@ module _ {s : List ℕ} {count faces points corners : ℕ} {vs rs : List ℕ} {p
                 ltb-false 32 (facesAt (textCount s) (textFaces s) (textFace s) v) (or-false (ltb (facesAt (textCount s) (textFaces s) (textFace s) v) 3) _ c .1)
 
 -- what is written into the first rows
-module _ (s : List ℕ) {count : ℕ} {vs rs vs′ rs′ : List ℕ} (k : Filled s 0 count vs rs vs′ rs′) where
-  pub valences-written : vs′ ≡ put vs 0 (valenceRows (textRing s) count)
+module _ (s : List ℕ) {count : ℕ} {t t′ : Lent} (k : Filled s 0 count t t′) where
+  pub valences-written : t′ .valences ≡ put (t .valences) 0 (valenceRows (textRing s) count)
   unfolding valenceRows
-  valences-written = k .valences .is ∙ ap (put vs 0) (from-start _ count)
+  valences-written = k .valences .is ∙ ap (put (t .valences) 0) (from-start _ count)
 
-  pub rings-written : rs′ ≡ put rs 0 (ringRows (textRing s) count)
+  pub rings-written : t′ .rings ≡ put (t .rings) 0 (ringRows (textRing s) count)
   unfolding ringRows
-  rings-written = k .rings .is ∙ ap (put rs 0) (from-start _ count)
+  rings-written = k .rings .is ∙ ap (put (t .rings) 0) (from-start _ count)

@@ -7,11 +7,11 @@ use native.Mathlib.Omega.{arith}
 use lib.IntN.{ℤ}
 use borrow.Author.Tests.{not-false}
 use Rattle.mesh.proofs.First.{Clear}
-use Rattle.rings.specs.Table.{put, valenceRows, ringRows, pointRows}
+use Rattle.rings.specs.Table.{Lent, put, valenceRows, ringRows, pointRows}
 use Rattle.rings.specs.Verdict.{andThen, after, withAmount}
 use Rattle.rings.specs.Check.{badCount, shortTables}
 use Rattle.rings.specs.declared.Refusal.{Refusal}
-use Rattle.rings.specs.declared.Refusal.the-variants.{ControlTooShort, BadCount}
+use Rattle.rings.specs.declared.Refusal.the-variants.{TableTooShort, VertexCount}
 use Rattle.rings.specs.declared.Verdict.{Verdict}
 use Rattle.rings.specs.declared.Verdict.the-variants.{Accepted, Refused}
 use Rattle.rings.specs.declared.Amount.{Amount}
@@ -68,10 +68,10 @@ module _ (s : List ℕ) where
     few-faces = head-found s (textCount s) (textFaces s) (vertexAt s 0) (rw (stages .0)) .faces-small
 
 module _ {s : List ℕ} {count faces points corners : ℕ} (T : Whole s count faces points corners) where
-  lines-good : {vs rs : List ℕ} {ps : List ℤ} → count ≤ 1024 → shortTables count vs rs ps ≡ false → Lines s count faces points corners vs rs ps
-  lines-good {vs} {rs} {ps} few long =
+  lines-good : {t : Lent} {ps : List ℤ} → count ≤ 1024 → shortTables count t ps ≡ false → Lines s count faces points corners t ps
+  lines-good {t} {ps} few long =
       let g = stages s (T .accepted) in
-      let r = long-tables count vs rs ps long in
+      let r = long-tables count t ps long in
       record {
         count-is = T .count-is;
         vertex-lines = record { begins = T .points-is; good = λ v h. not-false _ (g .1 .0 .below v (omega (arith, T .count-is))) };
@@ -88,65 +88,65 @@ module _ {s : List ℕ} {count faces points corners : ℕ} (T : Whole s count fa
 
 -- ---- the call
 
-module _ (s vs rs : List ℕ) (ps : List ℤ) where
+module _ (s : List ℕ) (t : Lent) (ps : List ℤ) where
   -- the answer and the tables, as the call leaves them
-  abbrev pub Left : Amount → List ℕ → List ℕ → List ℤ → Type 0
-  Left answer vs′ rs′ ps′ =
-      (answer ≡ readOffAnswer s vs rs ps)
-      × ((vs′ ≡ readOffValences s vs rs ps) × ((rs′ ≡ readOffRings s vs rs ps) × (ps′ ≡ readOffPositions s vs rs ps)))
+  abbrev pub Left : Amount → Lent → List ℤ → Type 0
+  Left answer t′ ps′ =
+      (answer ≡ readOffAnswer s t ps)
+      × ((t′ .valences ≡ readOffValences s t ps) × ((t′ .rings ≡ readOffRings s t ps) × (ps′ ≡ readOffPositions s t ps)))
 
-  refused : (r : Refusal) → readOffVerdict s vs rs ps ≡ Refused r → Left (amount.Refused r) vs rs ps
+  refused : (r : Refusal) → readOffVerdict s t ps ≡ Refused r → Left (amount.Refused r) t ps
   unfolding readOffAnswer readOffValences readOffRings readOffPositions withAmount after
   refused r v = (rw v, (rw v, (rw v, rw v)))
 
-  pub text-refused : (r : Refusal) → textVerdict s ≡ Refused r → Left (amount.Refused r) vs rs ps
+  pub text-refused : (r : Refusal) → textVerdict s ≡ Refused r → Left (amount.Refused r) t ps
   unfolding readOffVerdict andThen
   text-refused r e = refused r (rw e)
 
   module _ {count faces points corners : ℕ} (T : Whole s count faces points corners) where
-    pub count-refused : (b : Bool) → b ≡ badCount count → b ≡ true → Left (amount.Refused BadCount) vs rs ps
+    pub count-refused : (b : Bool) → b ≡ badCount count → b ≡ true → Left (amount.Refused VertexCount) t ps
     unfolding readOffVerdict andThen
-    count-refused b e h = refused BadCount (rw (T .accepted) (sym (if-hit _ _ _ b (e ∙ ap badCount (T .count-is)) h)))
+    count-refused b e h = refused VertexCount (rw (T .accepted) (sym (if-hit _ _ _ b (e ∙ ap badCount (T .count-is)) h)))
 
     module _ (b : Bool) (e : b ≡ badCount count) (h : b ≡ false) where
-      pub short-refused : (l : Bool) → l ≡ shortTables count vs rs ps → l ≡ true → Left (amount.Refused ControlTooShort) vs rs ps
+      pub short-refused : (l : Bool) → l ≡ shortTables count t ps → l ≡ true → Left (amount.Refused TableTooShort) t ps
       unfolding readOffVerdict andThen
       short-refused l d g =
-          refused ControlTooShort
+          refused TableTooShort
           (rw (T .accepted)
-          (if-pass _ _ _ b (e ∙ ap badCount (T .count-is)) h ∙ sym (if-hit _ _ _ l (d ∙ ap (λ n. shortTables n vs rs ps) (T .count-is)) g)))
+          (if-pass _ _ _ b (e ∙ ap badCount (T .count-is)) h ∙ sym (if-hit _ _ _ l (d ∙ ap (λ n. shortTables n t ps) (T .count-is)) g)))
 
-      module _ (l : Bool) (d : l ≡ shortTables count vs rs ps) (g : l ≡ false) where
-        pub lines-known : Lines s count faces points corners vs rs ps
+      module _ (l : Bool) (d : l ≡ shortTables count t ps) (g : l ≡ false) where
+        pub lines-known : Lines s count faces points corners t ps
         lines-known = lines-good T (told-most count b e h) (sym d ∙ g)
 
-        rest : readOffVerdict s vs rs ps ≡ facesVerdict s
+        rest : readOffVerdict s t ps ≡ facesVerdict s
         unfolding readOffVerdict andThen
         rest =
             rw (T .accepted)
-            (if-pass _ _ _ b (e ∙ ap badCount (T .count-is)) h ∙ if-pass _ _ _ l (d ∙ ap (λ n. shortTables n vs rs ps) (T .count-is)) g)
+            (if-pass _ _ _ b (e ∙ ap badCount (T .count-is)) h ∙ if-pass _ _ _ l (d ∙ ap (λ n. shortTables n t ps) (T .count-is)) g)
 
         -- where the lines are refused, and where they are accepted
-        module _ {w : Verdict} (is : w ≡ facesVerdict s) {vs′ rs′ : List ℕ} {ps′ : List ℤ}
-            (v-is : vs′ ≡ after w (put vs 0 (valenceRows (textRing s) count)) vs)
-            (r-is : rs′ ≡ after w (put rs 0 (ringRows (textRing s) count)) rs)
+        module _ {w : Verdict} (is : w ≡ facesVerdict s) {t′ : Lent} {ps′ : List ℤ}
+            (v-is : t′ .valences ≡ after w (put (t .valences) 0 (valenceRows (textRing s) count)) (t .valences))
+            (r-is : t′ .rings ≡ after w (put (t .rings) 0 (ringRows (textRing s) count)) (t .rings))
             (p-is : ps′ ≡ after w (put ps 0 (pointRows (textPoint s) count)) ps) where
-          pub lines-refused : (r : Refusal) → w ≡ Refused r → Left (amount.Refused r) vs′ rs′ ps′
+          pub lines-refused : (r : Refusal) → w ≡ Refused r → Left (amount.Refused r) t′ ps′
           unfolding after
           lines-refused r q =
               let k = refused r (rest ∙ sym is ∙ q) in
               (k .0, (v-is ∙ rw q (k .1 .0), (r-is ∙ rw q (k .1 .1 .0), p-is ∙ rw q (k .1 .1 .1))))
 
-          pub lines-accepted : w ≡ Accepted → Left (amount.Of count) vs′ rs′ ps′
+          pub lines-accepted : w ≡ Accepted → Left (amount.Of count) t′ ps′
           unfolding readOffAnswer readOffValences readOffRings readOffPositions withAmount after
           lines-accepted q =
-              let v : readOffVerdict s vs rs ps ≡ Accepted = rest ∙ sym is ∙ q in
+              let v : readOffVerdict s t ps ≡ Accepted = rest ∙ sym is ∙ q in
               let n = T .count-is in (
                 rw v (ap amount.Of n),
                 (
-                  v-is ∙ rw (q, v) (ap (λ k. put vs 0 (valenceRows (textRing s) k)) n),
+                  v-is ∙ rw (q, v) (ap (λ k. put (t .valences) 0 (valenceRows (textRing s) k)) n),
                   (
-                    r-is ∙ rw (q, v) (ap (λ k. put rs 0 (ringRows (textRing s) k)) n),
+                    r-is ∙ rw (q, v) (ap (λ k. put (t .rings) 0 (ringRows (textRing s) k)) n),
                     p-is ∙ rw (q, v) (ap (λ k. put ps 0 (pointRows (textPoint s) k)) n),
                   ),
                 ),

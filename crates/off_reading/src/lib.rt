@@ -1,10 +1,11 @@
 // Reading a face list into the lent tables: judged whole before the first write.
 ghost use mathlib.Core.Path.{_≡_};
-ghost use Rattle.rings.specs.Table.{put, valenceRows, ringRows, pointRows};
+ghost use Rattle.rings.specs.Table.{lent, put, valenceRows, ringRows, pointRows};
 ghost use Rattle.rings.specs.Verdict.{after};
 ghost use Rattle.off_text.specs.Layout.{textPoint};
 ghost use Rattle.off_text.specs.ReadOff.{textRing, facesVerdict, readOffAnswer, readOffValences, readOffRings, readOffPositions};
 ghost use Rattle.off_reading.specs.Reading.{Lines};
+use mesh::limits::Vertex;
 use off_blocks::PLACES;
 use off_blocks::ROWS;
 use off_filling::fill_rings;
@@ -27,10 +28,10 @@ fn read_lines(
     points: usize,
     corners: usize,
     valences: &mut [u16],
-    rings: &mut [u16],
+    rings: &mut [Vertex],
     positions: &mut [i32],
 ) -> Verdict
-    requires { ⌜ Lines (now text) count faces points corners (now valences) (now rings) (now positions) ⌝ }
+    requires { ⌜ Lines (now text) count faces points corners (lent (now valences) (now rings)) (now positions) ⌝ }
     ensures { λ r. ⌜ r ≡ facesVerdict (now (text .entry)) ⌝ }
     ensures { λ r. ⌜ now (valences .exit)
         ≡ after r (put (now (valences .entry)) 0 (valenceRows (textRing (now (text .entry))) count)) (now (valences .entry)) ⌝ }
@@ -56,11 +57,11 @@ fn read_lines(
     }
     let unfit = faults.unfit;
     if unfit < count {
-        return Verdict::Refused(Refusal::ImproperRing(unfit));
+        return Verdict::Refused(Refusal::RingImproper(unfit));
     }
     let far = first_far(text, points, count);
     if far < count {
-        return Verdict::Refused(Refusal::TooFar(far));
+        return Verdict::Refused(Refusal::ControlCoordinate(far));
     }
     fill_rings(
         text,
@@ -81,13 +82,13 @@ fn read_lines(
 pub fn read_off(
     text: &[u8],
     valences: &mut [u16],
-    rings: &mut [u16],
+    rings: &mut [Vertex],
     positions: &mut [i32],
 ) -> Amount
-    ensures { λ r. ⌜ r ≡ readOffAnswer (now (text .entry)) (now (valences .entry)) (now (rings .entry)) (now (positions .entry)) ⌝ }
-    ensures { λ r. ⌜ now (valences .exit) ≡ readOffValences (now (text .entry)) (now (valences .entry)) (now (rings .entry)) (now (positions .entry)) ⌝ }
-    ensures { λ r. ⌜ now (rings .exit) ≡ readOffRings (now (text .entry)) (now (valences .entry)) (now (rings .entry)) (now (positions .entry)) ⌝ }
-    ensures { λ r. ⌜ now (positions .exit) ≡ readOffPositions (now (text .entry)) (now (valences .entry)) (now (rings .entry)) (now (positions .entry)) ⌝ }
+    ensures { λ r. ⌜ r ≡ readOffAnswer (now (text .entry)) (lent (now (valences .entry)) (now (rings .entry))) (now (positions .entry)) ⌝ }
+    ensures { λ r. ⌜ now (valences .exit) ≡ readOffValences (now (text .entry)) (lent (now (valences .entry)) (now (rings .entry))) (now (positions .entry)) ⌝ }
+    ensures { λ r. ⌜ now (rings .exit) ≡ readOffRings (now (text .entry)) (lent (now (valences .entry)) (now (rings .entry))) (now (positions .entry)) ⌝ }
+    ensures { λ r. ⌜ now (positions .exit) ≡ readOffPositions (now (text .entry)) (lent (now (valences .entry)) (now (rings .entry))) (now (positions .entry)) ⌝ }
 {
     match judge_text(text) {
         Text::Refused(r) => Amount::Refused(r),
@@ -98,10 +99,10 @@ pub fn read_off(
             corners,
         } => {
             if is_bad_count(count) {
-                return Amount::Refused(Refusal::BadCount);
+                return Amount::Refused(Refusal::VertexCount);
             }
             if is_short(valences, rings, positions, count) {
-                return Amount::Refused(Refusal::ControlTooShort);
+                return Amount::Refused(Refusal::TableTooShort);
             }
             match read_lines(
                 text,

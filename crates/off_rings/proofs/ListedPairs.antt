@@ -13,7 +13,7 @@ use Rattle.mesh.specs.Ring.{times, _∈_, prev}
 use Rattle.mesh.specs.Mesh.{Mesh, Sound, faces}
 use Rattle.mesh.proofs.Lists.{eq-split, sum-same, sum-add, sum-swap}
 use Rattle.mesh.proofs.Faces.{cond-zero, sum₃, low, triangles, faces-triangles}
-use Rattle.mesh.proofs.Refined.{edge-ne}
+use Rattle.mesh.proofs.SoundMeshes.{edge-ne}
 use Rattle.mesh.proofs.Rings.{prev-in}
 use Rattle.mesh.proofs.RingsGoRound.{next-of-prev}
 use Rattle.off_rings.specs.Faces.{Face, corner, before, hasPair}

@@ -1,3 +1,4 @@
+-- For inside.
 -- The faces at one vertex as two lists, in the order of the faces: what comes before the vertex in each, and what comes behind it.
 -- What code keeps of a vertex while it judges it.
 -- Assumes nothing.

@@ -1,3 +1,4 @@
+-- To be believed.
 -- The faces of a mesh in order (order 4): each once, beginning with its smallest corner, ascending.
 -- Assumes nothing.
 use mathlib.Core.Path.{_≡_}

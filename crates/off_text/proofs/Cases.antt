@@ -9,12 +9,12 @@ use Rattle.mesh.specs.Search.{firstFrom, first, some}
 use Rattle.mesh.specs.Ring.{has, placeBefore, prev}
 use Rattle.mesh.specs.Mesh.{mesh}
 use Rattle.units.specs.Coordinate.{beyond}
-use Rattle.rings.specs.Table.{gather}
+use Rattle.rings.specs.Table.{lent, gather}
 use Rattle.rings.specs.Verdict.{refuseIf, refuseAt, andThen}
 use Rattle.rings.specs.Check.{badCount, shortRings, shortTables}
 use Rattle.rings.specs.declared.Verdict.{Verdict}
 use Rattle.rings.specs.declared.Verdict.the-variants.{Accepted, Refused}
-use Rattle.rings.specs.declared.Refusal.the-variants.{ControlTooShort, BadCount, BadText, OpenRing, ImproperRing, TooFar}
+use Rattle.rings.specs.declared.Refusal.the-variants.{TableTooShort, VertexCount, BadText, OpenRing, RingImproper, ControlCoordinate}
 use Rattle.numerals.specs.Numerals.{digits, number, signed}
 use Rattle.off_numbers.specs.Text.{byteAt, digitAt, runAt, valueOf, valueAt, afterAt, padded, isNumber, minusAt, isUnit, unitAt, afterUnit}
 use Rattle.off_rings.specs.Faces.{Face, badFace, corner, before, behind, hasPair, steps, trail, pairs}
@@ -119,7 +119,7 @@ read-octahedron = refl
 
 -- a verdict in tables for eight vertices
 abbrev judge : List ℕ → Verdict
-judge s = readOffVerdict s (replicate 8 0) (replicate 256 0) (replicate 24 (pos 0))
+judge s = readOffVerdict s (lent (replicate 8 0) (replicate 256 0)) (replicate 24 (pos 0))
 
 -- 20: nothing; a carriage return behind the word; a leading zero; two blanks; 2E is not 3F
 pub first-lines :
@@ -175,7 +175,7 @@ pub whole-texts :
     ∷ text 9 0 0 []
     ∷ withPoint (number 2147483647 32 ++ (48 ∷ 32 ∷ 48 ∷ 10 ∷ []))
     ∷ [])
-    ≡ Accepted ∷ Refused BadCount ∷ Refused ControlTooShort ∷ Refused (TooFar 0) ∷ []
+    ≡ Accepted ∷ Refused VertexCount ∷ Refused TableTooShort ∷ Refused (ControlCoordinate 0) ∷ []
 unfolding firstFrom first some refuseIf refuseAt andThen badCount shortRings shortTables beyond byteAt digitAt runAt valueOf valueAt afterAt padded
     isNumber minusAt isUnit unitAt afterUnit badFace corner before behind hasPair steps trail pairs facesAt after least faceRing backIn closed doubled
     twisted unfitFaces isWord textCount textFaces textEdges isCounts isVertex afterVertex vertexAt axisAt textPoint cornersAt isCorners isFace
@@ -192,7 +192,7 @@ pub vertices :
     ∷ text 4 2 3 (face 0 1 2 ∷ face 0 2 1 ∷ [])
     ∷ text 8 6 9 (face 4 5 7 ∷ face 4 6 5 ∷ face 4 7 6 ∷ face 5 6 7 ∷ face 0 1 4 ∷ face 0 4 1 ∷ [])
     ∷ [])
-    ≡ Refused (OpenRing 0) ∷ Refused (OpenRing 0) ∷ Refused (ImproperRing 0) ∷ Refused (ImproperRing 0) ∷ Refused (OpenRing 4) ∷ []
+    ≡ Refused (OpenRing 0) ∷ Refused (OpenRing 0) ∷ Refused (RingImproper 0) ∷ Refused (RingImproper 0) ∷ Refused (OpenRing 4) ∷ []
 unfolding firstFrom first some refuseIf refuseAt andThen badCount shortRings shortTables beyond byteAt digitAt runAt valueOf valueAt afterAt padded
     isNumber minusAt isUnit unitAt afterUnit badFace corner before behind hasPair steps trail pairs facesAt after least faceRing backIn closed doubled
     twisted unfitFaces isWord textCount textFaces textEdges isCounts isVertex afterVertex vertexAt axisAt textPoint cornersAt isCorners isFace

@@ -1,3 +1,4 @@
+-- To be believed.
 -- The text of a face list (document 02, order 4): the word OFF; V, F and E; a line for each vertex; a line for each face, 3 a b c;
 -- each ended by a newline, with single blanks, and nothing more. Reason 20 stands at the first line that is not as expected, counted from 1.
 -- Assumes nothing.

@@ -1,3 +1,4 @@
+-- To be believed.
 -- Reading a face list: 20, then 2 and 1, then 21, 4 and 7, each over all vertices before the next, and V where it is accepted;
 -- the tables get the rings of the faces and the points.
 -- Assumes nothing.
@@ -6,10 +7,10 @@ use mathlib.Core.List.{List}
 use Prim.Native.Nat.{ℕ}
 use lib.IntN.{ℤ}
 use Rattle.units.specs.Coordinate.{beyond}
-use Rattle.rings.specs.Table.{put, valenceRows, ringRows, pointRows}
+use Rattle.rings.specs.Table.{Lent, put, valenceRows, ringRows, pointRows}
 use Rattle.rings.specs.Verdict.{refuseIf, refuseAt, andThen, after, withAmount}
 use Rattle.rings.specs.Check.{badCount, shortTables}
-use Rattle.rings.specs.declared.Refusal.the-variants.{ControlTooShort, BadCount, OpenRing, ImproperRing, TooFar}
+use Rattle.rings.specs.declared.Refusal.the-variants.{TableTooShort, VertexCount, OpenRing, RingImproper, ControlCoordinate}
 use Rattle.rings.specs.declared.Verdict.{Verdict}
 use Rattle.rings.specs.declared.Verdict.the-variants.{Accepted}
 use Rattle.rings.specs.declared.Amount.{Amount}
@@ -29,17 +30,17 @@ module _ (s : List ℕ) where
   unfoldable pub facesVerdict : Verdict
   facesVerdict =
       refuseAt (twisted (textCount s) (textFaces s) (textFace s)) (textCount s) OpenRing
-      (refuseAt (unfitFaces (textCount s) (textFaces s) (textFace s)) (textCount s) ImproperRing
-      (refuseAt textBeyond (textCount s) TooFar
+      (refuseAt (unfitFaces (textCount s) (textFaces s) (textFace s)) (textCount s) RingImproper
+      (refuseAt textBeyond (textCount s) ControlCoordinate
       Accepted))
 
-module _ (s vs rs : List ℕ) (ps : List ℤ) where
+module _ (s : List ℕ) (t : Lent) (ps : List ℤ) where
   -- 20, 2, 1, then those of the faces and the points
   unfoldable pub readOffVerdict : Verdict
   readOffVerdict =
       andThen (textVerdict s)
-      (refuseIf (badCount (textCount s)) BadCount
-      (refuseIf (shortTables (textCount s) vs rs ps) ControlTooShort
+      (refuseIf (badCount (textCount s)) VertexCount
+      (refuseIf (shortTables (textCount s) t ps) TableTooShort
       (facesVerdict s)))
 
   -- V
@@ -48,11 +49,11 @@ module _ (s vs rs : List ℕ) (ps : List ℤ) where
 
   -- the valences after the call
   unfoldable pub readOffValences : List ℕ
-  readOffValences = after readOffVerdict (put vs 0 (valenceRows (textRing s) (textCount s))) vs
+  readOffValences = after readOffVerdict (put (t .valences) 0 (valenceRows (textRing s) (textCount s))) (t .valences)
 
   -- the rings after the call
   unfoldable pub readOffRings : List ℕ
-  readOffRings = after readOffVerdict (put rs 0 (ringRows (textRing s) (textCount s))) rs
+  readOffRings = after readOffVerdict (put (t .rings) 0 (ringRows (textRing s) (textCount s))) (t .rings)
 
   -- the positions after the call
   unfoldable pub readOffPositions : List ℤ

@@ -1,3 +1,4 @@
+-- To be believed.
 -- Writing a face list: the check, then 10, and the number of bytes where it is accepted.
 -- Assumes nothing.
 use mathlib.Core.List.{List, [], _∷_, _++_}
@@ -6,7 +7,7 @@ use lib.Dec.{ltb}
 use lib.IntN.{ℤ}
 use lib.ListN.{length}
 use Rattle.mesh.specs.Mesh.{Mesh, edges, faces}
-use Rattle.rings.specs.Table.{gather, put, rows, coordinateAt}
+use Rattle.rings.specs.Table.{Lent, gather, put, rows, coordinateAt}
 use Rattle.rings.specs.Verdict.{refuseIf, andThen, after, withAmount}
 use Rattle.rings.specs.Check.{checkVerdict}
 use Rattle.rings.specs.declared.Refusal.the-variants.{NoRoom}
@@ -45,14 +46,14 @@ textOf M point =
     ++ (countsLine (M .count) (faces M) (edges M)
     ++ (gather (λ v. vertexLine (λ axis. point axis v)) (M .count) ++ faceLines (listed M)))
 
-module _ (n : ℕ) (vs rs : List ℕ) (ps : List ℤ) (room : List ℕ) where
+module _ (n : ℕ) (t : Lent) (ps : List ℤ) (room : List ℕ) where
   -- the text of the tables
   abbrev pub text : List ℕ
-  text = textOf (rows n vs rs) (coordinateAt ps)
+  text = textOf (rows n t) (coordinateAt ps)
 
   -- the check, then 10
   unfoldable pub writeOffVerdict : Verdict
-  writeOffVerdict = andThen (checkVerdict n vs rs ps) (refuseIf (ltb (length room) (length text)) NoRoom Accepted)
+  writeOffVerdict = andThen (checkVerdict n t ps) (refuseIf (ltb (length room) (length text)) NoRoom Accepted)
 
   -- the number of bytes
   unfoldable pub writeOffAnswer : Amount

@@ -1,3 +1,4 @@
+-- For inside.
 -- Where a text goes on behind what is expected at a place.
 -- Assumes nothing.
 use mathlib.Core.Bool.{cond}

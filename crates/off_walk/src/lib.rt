@@ -2,10 +2,11 @@
 ghost use mathlib.Core.Path.{_≡_};
 ghost use lib.ListN.{length};
 ghost use Rattle.off_rings.specs.Fans.{follower, smallest, fanCloses};
+use mesh::limits::Vertex;
 use rings::ring::seek;
 
 // What follows x, or the number of vertices where nothing does.
-pub fn follow(from: &[u16], to: &[u16], count: usize, x: usize) -> usize
+pub fn follow(from: &[Vertex], to: &[Vertex], count: usize, x: usize) -> usize
     requires { ⌜ length (now from) ≡ length (now to) ⌝ }
     ensures { λ r. ⌜ r ≡ follower count (now (from .entry)) (now (to .entry)) x ⌝ }
 {
@@ -17,7 +18,7 @@ pub fn follow(from: &[u16], to: &[u16], count: usize, x: usize) -> usize
 }
 
 // The smallest entry, or the number of vertices where there is none.
-pub fn smallest_of(from: &[u16], to: &[u16], count: usize) -> usize
+pub fn smallest_of(from: &[Vertex], to: &[Vertex], count: usize) -> usize
     ensures { λ r. ⌜ r ≡ smallest count (now (from .entry)) (now (to .entry)) ⌝ }
 {
     let mut best = count;
@@ -33,7 +34,7 @@ pub fn smallest_of(from: &[u16], to: &[u16], count: usize) -> usize
 }
 
 // Does the ring close when all its faces are passed, and not before?
-pub fn closes(from: &[u16], to: &[u16], count: usize) -> bool
+pub fn closes(from: &[Vertex], to: &[Vertex], count: usize) -> bool
     requires { ⌜ length (now from) ≡ length (now to) ⌝ }
     ensures { λ r. ⌜ r ≡ fanCloses count (now (from .entry)) (now (to .entry)) ⌝ }
 {

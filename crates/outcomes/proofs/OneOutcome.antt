@@ -5,48 +5,49 @@ use mathlib.Core.Path.{_≡_, sym, ap, _∙_}
 use mathlib.Core.List.{List}
 use Prim.Native.Nat.{ℕ}
 use lib.IntN.{ℤ}
+use Rattle.rings.specs.Table.{Lent}
 use Rattle.rings.specs.Paper.{paperAmount, paperCounted, paperVerdict}
 use Rattle.rings.specs.declared.Verdict.{Verdict}
 use Rattle.rings.specs.declared.Counted.{Counted}
 use Rattle.rings.specs.declared.Amount.{Amount}
 use Rattle.ring_row.specs.Edit.{Edit}
 use Rattle.reshape_tables.specs.Calls.{Reshaping}
-use Rattle.plan.specs.declared.Move.{Move}
+use Rattle.move_plan.specs.declared.Move.{Move}
 use Rattle.rings.specs.Refusal.{Paper}
-use Rattle.crossing.specs.Crossing.{countsPaper, valuePaper}
-use Rattle.crossing.specs.declared.CountsAnswer.{CountsAnswer}
-use Rattle.crossing.specs.declared.ValueAnswer.{ValueAnswer}
-use Rattle.crossing.proofs.OneAnswer.{one-value, one-counts}
+use Rattle.c_answers.specs.Crossing.{countsPaper, valuePaper}
+use Rattle.c_answers.specs.declared.CountsAnswer.{CountsAnswer}
+use Rattle.c_answers.specs.declared.ValueAnswer.{ValueAnswer}
+use Rattle.c_answers.proofs.OneAnswer.{one-value, one-counts}
 use Rattle.outcomes.specs.Outcomes.{Answers, Edited, Reshaped, Split, Applied, ReadIn, WrittenOut, Listed, Exported}
 
 -- two things that are one promised thing are the same
 pub one-answer : {A : Type 0} {promised a b : A} → Answers promised a → Answers promised b → a ≡ b
 one-answer x y = x ∙ sym y
 
-module _ {e : Edit} {vs rs vs′ rs′ vs″ rs″ : List ℕ} {v : ℕ} {a b : Verdict} where
-  pub one-edit : Edited e vs rs v a vs′ rs′ → Edited e vs rs v b vs″ rs″ → (a ≡ b) × (paperVerdict a ≡ paperVerdict b) × (vs′ ≡ vs″) × (rs′ ≡ rs″)
+module _ {e : Edit} {t t′ t″ : Lent} {v : ℕ} {a b : Verdict} where
+  pub one-edit : Edited e t v a t′ → Edited e t v b t″ → (a ≡ b) × (paperVerdict a ≡ paperVerdict b) × (t′ .valences ≡ t″ .valences) × (t′ .rings ≡ t″ .rings)
   one-edit x y = let q = one-answer (x .answers) (y .answers) in (q, ap paperVerdict q, one-answer (x .valences) (y .valences), one-answer (x .rings) (y .rings))
 
-module _ {e : Reshaping} {vs rs vs′ rs′ vs″ rs″ : List ℕ} {a b : Counted} where
-  pub one-reshaping : Reshaped e vs rs a vs′ rs′ → Reshaped e vs rs b vs″ rs″ → (a ≡ b) × (paperCounted a ≡ paperCounted b) × (vs′ ≡ vs″) × (rs′ ≡ rs″)
+module _ {e : Reshaping} {t t′ t″ : Lent} {a b : Counted} where
+  pub one-reshaping : Reshaped e t a t′ → Reshaped e t b t″ → (a ≡ b) × (paperCounted a ≡ paperCounted b) × (t′ .valences ≡ t″ .valences) × (t′ .rings ≡ t″ .rings)
   one-reshaping x y =
       let q = one-answer (x .answers) (y .answers) in
       (q, ap paperCounted q, one-answer (x .valences) (y .valences), one-answer (x .rings) (y .rings))
 
-  pub one-split : {n : ℕ} {ps ps′ ps″ : List ℤ} → Split e n vs rs ps a vs′ rs′ ps′ → Split e n vs rs ps b vs″ rs″ ps″
-      → (a ≡ b) × (paperCounted a ≡ paperCounted b) × (vs′ ≡ vs″) × (rs′ ≡ rs″) × (ps′ ≡ ps″)
+  pub one-split : {n : ℕ} {ps ps′ ps″ : List ℤ} → Split e n t ps a t′ ps′ → Split e n t ps b t″ ps″
+      → (a ≡ b) × (paperCounted a ≡ paperCounted b) × (t′ .valences ≡ t″ .valences) × (t′ .rings ≡ t″ .rings) × (ps′ ≡ ps″)
   one-split x y =
       let r = one-reshaping (x .reshaped) (y .reshaped) in
       (r .0, r .1, r .2, r .3, one-answer (x .positions) (y .positions))
 
-module _ {n levels : ℕ} {vs rs map map′ map″ : List ℕ} {ps ps′ ps″ : List ℤ} {ms : List Move} {a b : Amount} where
-  pub one-list : Applied n levels vs rs ps map ms a ps′ map′ → Applied n levels vs rs ps map ms b ps″ map″ → (a ≡ b) × (paperAmount a ≡ paperAmount b) × (ps′ ≡ ps″) × (map′ ≡ map″)
+module _ {n levels : ℕ} {t : Lent} {map map′ map″ : List ℕ} {ps ps′ ps″ : List ℤ} {ms : List Move} {a b : Amount} where
+  pub one-list : Applied n levels t ps map ms a ps′ map′ → Applied n levels t ps map ms b ps″ map″ → (a ≡ b) × (paperAmount a ≡ paperAmount b) × (ps′ ≡ ps″) × (map′ ≡ map″)
   one-list x y = let q = one-answer (x .answers) (y .answers) in (q, ap paperAmount q, one-answer (x .positions) (y .positions), one-answer (x .marks) (y .marks))
 
 -- a mesh file or a face list, read or written
-module _ {promised a b : Amount} {vs rs vs′ rs′ vs″ rs″ : List ℕ} {ps ps′ ps″ : List ℤ} where
-  pub one-reading : ReadIn promised vs rs ps a vs′ rs′ ps′ → ReadIn promised vs rs ps b vs″ rs″ ps″
-      → (a ≡ b) × (paperAmount a ≡ paperAmount b) × (vs′ ≡ vs″) × (rs′ ≡ rs″) × (ps′ ≡ ps″)
+module _ {promised a b : Amount} {t t′ t″ : Lent} {ps ps′ ps″ : List ℤ} where
+  pub one-reading : ReadIn promised t ps a t′ ps′ → ReadIn promised t ps b t″ ps″
+      → (a ≡ b) × (paperAmount a ≡ paperAmount b) × (t′ .valences ≡ t″ .valences) × (t′ .rings ≡ t″ .rings) × (ps′ ≡ ps″)
   one-reading x y =
       let q = one-answer (x .answers) (y .answers) in
       (q, ap paperAmount q, one-answer (x .valences) (y .valences), one-answer (x .rings) (y .rings), one-answer (x .positions) (y .positions))

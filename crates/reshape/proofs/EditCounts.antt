@@ -7,10 +7,10 @@ use lib.ListN.{length}
 use Rattle.mesh.specs.Search.{sum}
 use Rattle.mesh.specs.Ring.{times, _∈_}
 use Rattle.mesh.specs.Mesh.{Mesh, Sound, valences, edges, faces, characteristic}
-use Rattle.mesh.proofs.Ints.{sub-eq}
 use Rattle.mesh.proofs.Lists.{sum-same, sum-add, sum-times}
 use Rattle.mesh.proofs.Edges.{handshake}
 use Rattle.mesh.proofs.Faces.{three-faces}
+use Rattle.steps.proofs.Ints.{sub-eq}
 
 -- vertices that lose an entry, and such as gain one
 pub sum-moved : (f g : ℕ → ℕ) (n : ℕ) (less more : List ℕ) → ((x : ℕ) → x ∈ less → x < n) → ((x : ℕ) → x ∈ more → x < n)

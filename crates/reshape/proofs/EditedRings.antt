@@ -15,7 +15,7 @@ use Rattle.mesh.specs.Mesh.{Mesh, Proper, Sound}
 use Rattle.mesh.proofs.Lists.{eq-split}
 use Rattle.mesh.proofs.Rings.{All, all-in, Apart, apart-distinct}
 use Rattle.mesh.proofs.RingsGoRound.{prev-is-what-it-follows}
-use Rattle.mesh.proofs.Refined.{edge-lt}
+use Rattle.mesh.proofs.SoundMeshes.{edge-lt}
 use Rattle.mesh.proofs.EditedEntries as X
 use Rattle.mesh.proofs.RingsAfterEdits as A
 use Rattle.mesh.proofs.Neighbours.{PutAfter, TakenOut, Renamed}

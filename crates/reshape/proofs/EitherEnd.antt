@@ -15,14 +15,14 @@ use borrow.Author.Tests.{lt-ltb, le-ltb}
 use Rattle.mesh.specs.Limits.{leastValence}
 use Rattle.mesh.specs.Ring.{has, next, prev, follows}
 use Rattle.mesh.specs.Mesh.{Mesh, Sound}
-use Rattle.mesh.specs.Round.{rounded}
-use Rattle.mesh.specs.Mask.{weighted, byMask}
-use Rattle.mesh.specs.Loop.{term}
 use Rattle.mesh.proofs.Lists.{lt-split}
 use Rattle.mesh.proofs.First.{or-comm, or-swap, same-tests}
-use Rattle.mesh.proofs.Shuffled.{map-shuffled, weighted-shuffled}
+use Rattle.mesh.proofs.Shuffled.{map-shuffled}
 use Rattle.mesh.proofs.Places.{has-in, in-has, follows-true, true-follows}
-use Rattle.mesh.proofs.Refined.{Face, prev-next, mesh-same}
+use Rattle.mesh.proofs.SoundMeshes.{Face, prev-next, mesh-same}
+use Rattle.steps.specs.Round.{rounded}
+use Rattle.steps.specs.Mask.{weighted, byMask, term}
+use Rattle.steps.proofs.ShuffledTerms.{weighted-shuffled}
 use Rattle.reshape.specs.Rows.{Row, ringBy, rewritten}
 use Rattle.reshape.specs.Reshape.{fromSmallest, flipRowsOf, splitEdge, splitFace, flip, noEdge, noFace, full, fullBeside, fullCorner, cannotFlip}
 use Rattle.reshape.specs.Mean.{meanAt}

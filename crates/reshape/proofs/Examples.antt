@@ -9,9 +9,9 @@ use lib.ListN.{getD}
 use lib.IntN.{ℤ, pos, negsuc}
 use Rattle.mesh.specs.Ring as R
 use Rattle.mesh.specs.Edits as D
-use Rattle.mesh.specs.Round as U
-use Rattle.mesh.specs.Mask as K
 use Rattle.mesh.specs.Mesh.{Mesh, mesh}
+use Rattle.steps.specs.Round as U
+use Rattle.steps.specs.Mask as K
 use Rattle.reshape.specs.Rows.{rewritten}
 use Rattle.reshape.specs.Reshape.{fromSmallest, edgeRows, faceRows, flipRows, splitEdge, splitFace, flip, cannotFlip, noEdge, noFace}
 use Rattle.reshape.specs.Mean.{meanAt}

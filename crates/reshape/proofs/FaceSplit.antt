@@ -15,7 +15,7 @@ use Rattle.mesh.specs.Ring.{times, _∈_, Distinct, placeAfter, Follows}
 use Rattle.mesh.specs.Edits.{insertAfter}
 use Rattle.mesh.specs.Mesh.{Mesh, Sound, valences}
 use Rattle.mesh.proofs.Rings.{all-in, Apart, apart-distinct, getD-in, next-getD}
-use Rattle.mesh.proofs.Refined.{Face, edge-ne}
+use Rattle.mesh.proofs.SoundMeshes.{Face, edge-ne}
 use Rattle.reshape.specs.Rows.{rewritten}
 use Rattle.reshape.specs.Reshape.{faceRowsOf}
 use Rattle.reshape.proofs.Triangles.{Triangle, triangle, Among, Fits, turn-cases, at-each, sound-after}

@@ -13,7 +13,7 @@ use Rattle.mesh.specs.Edits.{erase, insertAfter}
 use Rattle.mesh.specs.Mesh.{Mesh, Sound}
 use Rattle.mesh.proofs.First.{or-both, by-cases}
 use Rattle.mesh.proofs.Places.{has-in, in-has}
-use Rattle.mesh.proofs.Refined.{prev-next}
+use Rattle.mesh.proofs.SoundMeshes.{prev-next}
 use Rattle.mesh.proofs.EditedEntries as X
 use Rattle.mesh.proofs.SameRounds.{same-round}
 use Rattle.reshape.specs.Rows.{rewritten}

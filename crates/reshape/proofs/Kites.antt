@@ -7,7 +7,7 @@ use mathlib.Core.Logic.{_⊎_, inl, inr, ⊎-elim, _≢_}
 use Prim.Native.Nat.{ℕ, _<_}
 use Rattle.mesh.specs.Ring.{_∈_, next, prev}
 use Rattle.mesh.specs.Mesh.{Mesh, Sound}
-use Rattle.mesh.proofs.Refined.{Face, face-at, apart₄, prev-next}
+use Rattle.mesh.proofs.SoundMeshes.{Face, face-at, apart₄, prev-next}
 use Rattle.reshape.proofs.Triangles.{Triangle, triangle, Among, turn-cases}
 
 -- the two triangles

@@ -6,10 +6,10 @@ use Prim.Native.Nat.{ℕ, _≤_, _<_}
 use native.Mathlib.Omega.{arith}
 use lib.IntN.{ℤ, pos, subℕ, natAbs}
 use lib.ListN.{length}
-use Rattle.mesh.specs.Loop.{term}
-use Rattle.mesh.proofs.Means.{IsMean, total-ring, nonneg-ring}
-use Rattle.mesh.proofs.Hull.{Within, SourcesWithin, mean-within-sources, near-within, within-near}
 use Rattle.mesh.proofs.Rings.{All}
+use Rattle.steps.specs.Mask.{term}
+use Rattle.steps.proofs.Means.{IsMean, total-ring, nonneg-ring}
+use Rattle.steps.proofs.Hull.{Within, SourcesWithin, mean-within-sources, near-within, within-near}
 use Rattle.reshape.specs.Mean.{meanMask, meanAt}
 
 mask-mean : (l : List ℕ) → 0 < length l → IsMean (meanMask l)

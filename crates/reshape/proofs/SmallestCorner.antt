@@ -3,7 +3,7 @@ use mathlib.Core.Logic.{⊎-elim}
 use Prim.Native.Nat.{ℕ, min}
 use Rattle.mesh.specs.Mesh.{Mesh, Sound}
 use Rattle.mesh.proofs.Lists.{lt-split}
-use Rattle.mesh.proofs.Refined.{Face, turned}
+use Rattle.mesh.proofs.SoundMeshes.{Face, turned}
 use Rattle.reshape.specs.Reshape.{fromSmallest}
 
 from-smallest : (P : ℕ → ℕ → ℕ → Type 0) (u v w : ℕ) → P u v w → P v w u → P w u v

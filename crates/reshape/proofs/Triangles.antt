@@ -12,7 +12,7 @@ use Rattle.mesh.specs.Ring.{times, _∈_, Follows}
 use Rattle.mesh.specs.Mesh.{Mesh, Proper, Sound}
 use Rattle.mesh.proofs.Lists.{lt-split, here, there}
 use Rattle.mesh.proofs.Rings.{All, all-in, next-in}
-use Rattle.mesh.proofs.Refined.{Tri, Face, face-at}
+use Rattle.mesh.proofs.SoundMeshes.{Tri, Face, face-at}
 
 -- three corners, each of which has the two after it one after the other in its ring
 pub record Triangle : Type 0 where

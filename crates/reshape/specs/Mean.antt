@@ -1,11 +1,11 @@
+-- To be believed.
 -- Where a new vertex lies (document 02, order 1): at the mean of the corners, each coordinate rounded as in refinement.
 -- Assumes nothing.
 use mathlib.Core.List.{List, map}
 use Prim.Native.Nat.{ℕ}
 use lib.IntN.{ℤ}
 use lib.ListN.{length}
-use Rattle.mesh.specs.Mask.{Mask, byMask}
-use Rattle.mesh.specs.Loop.{term}
+use Rattle.steps.specs.Mask.{Mask, byMask, term}
 
 -- one part of each corner, in as many
 abbrev pub meanMask : List ℕ → Mask

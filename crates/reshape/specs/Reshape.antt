@@ -1,3 +1,4 @@
+-- To be believed.
 -- The three edits of a control mesh (document 02, order 1): the rows that each writes, and what stands against it.
 -- An edge is named by its ends in either order, with p the lesser. A face u, v, w has next(u in v) = w, and is named from
 -- any corner on. The new vertex x has number V.

@@ -1,3 +1,4 @@
+-- To be believed.
 -- A mesh of which some rings are written anew. An edit is a list of such rows, all worked out from the old rings.
 -- Assumes nothing.
 use mathlib.Core.Bool.{cond}

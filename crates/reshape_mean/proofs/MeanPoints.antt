@@ -8,13 +8,13 @@ use lib.IntN.{ℤ, pos, subℕ, one, *ℤ-comm, *ℤ-one}
 use lib.ListN.{length, getD}
 use mir.Syntax.{w32}
 use mir.Val.{toZ, ofZ}
-use Rattle.mesh.specs.Round.{rounded}
-use Rattle.mesh.specs.Mask.{byMask}
+use Rattle.steps.specs.Round.{rounded}
+use Rattle.steps.specs.Mask.{byMask}
 use Rattle.units.specs.Coordinate.{InRange, offset}
 use Rattle.units.specs.Points.{ringSum}
 use Rattle.units.proofs.Coordinates.{mean-is}
 use Rattle.units.proofs.Masks.{ring-sum}
-use Rattle.level.specs.Level.{AllBelow, SumOf}
+use Rattle.loop_points.specs.Level.{AllBelow, SumOf}
 use Rattle.reshape.specs.Mean.{meanMask}
 
 -- the corners' sum, divided by their number

@@ -4,11 +4,12 @@ ghost use Prim.Native.Nat.{_+_, _*_, _≤_, _<_};
 ghost use lib.IntN.{subℕ};
 ghost use lib.ListN.{length};
 ghost use Rattle.mesh.specs.Limits.{mostUnits, mostValence, mostVertices};
-ghost use Rattle.mesh.specs.Round.{rounded};
+ghost use Rattle.steps.specs.Round.{rounded};
 ghost use Rattle.units.specs.Coordinate.{InRange, offset};
-ghost use Rattle.level.specs.Level.{Near, AllBelow, pointBy};
+ghost use Rattle.loop_points.specs.Level.{Near, AllBelow, pointBy};
 ghost use Rattle.reshape.specs.Mean.{meanMask};
-use level::points::ring_sums;
+use loop_points::points::ring_sums;
+use mesh::limits::Vertex;
 use units::Point;
 use units::coordinate;
 
@@ -21,7 +22,7 @@ fn mean(s: u32, n: u32) -> i32
 }
 
 // The point at the mean of these corners.
-pub fn mean_point(corners: &[u16], positions: &[i32], count: usize) -> Point
+pub fn mean_point(corners: &[Vertex], positions: &[i32], count: usize) -> Point
     requires { ⌜ Near count (now positions) ⌝ }
     requires { ⌜ count ≤ mostVertices ⌝ }
     requires { ⌜ 0 < length (now corners) ⌝ }

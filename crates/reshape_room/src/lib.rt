@@ -4,9 +4,11 @@ ghost use Prim.Native.Nat.{_<_};
 ghost use lib.Dec.{leb};
 ghost use lib.ListN.{length, getD};
 ghost use Rattle.mesh.specs.Limits.{mostValence};
+ghost use Rattle.rings.specs.Table.{lent};
 ghost use Rattle.reshape_tables.specs.Calls.{newVerdict};
-use rings::MOST_COUNT;
-use rings::MOST_VALENCE;
+use mesh::limits::MOST_COUNT;
+use mesh::limits::MOST_VALENCE;
+use mesh::limits::Vertex;
 use rings::Refusal;
 use rings::Verdict;
 use rings::table::is_short;
@@ -20,8 +22,8 @@ pub fn is_full(valences: &[u16], v: usize) -> bool
 }
 
 // A new vertex: 16 and 10.
-pub fn judge_new(valences: &[u16], rings: &[u16], positions: &[i32], count: usize) -> Verdict
-    ensures { λ r. ⌜ r ≡ newVerdict count (now (valences .entry)) (now (rings .entry)) (now (positions .entry)) ⌝ }
+pub fn judge_new(valences: &[u16], rings: &[Vertex], positions: &[i32], count: usize) -> Verdict
+    ensures { λ r. ⌜ r ≡ newVerdict count (lent (now (valences .entry)) (now (rings .entry))) (now (positions .entry)) ⌝ }
 {
     if MOST_COUNT <= count {
         return Verdict::Refused(Refusal::RingFull);

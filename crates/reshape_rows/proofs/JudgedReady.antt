@@ -9,56 +9,56 @@ use lib.ListN.{length}
 use Rattle.mesh.specs.Limits.{mostValence}
 use Rattle.mesh.specs.Mesh.{Mesh}
 use Rattle.mesh.specs.Ring.{_∈_}
-use Rattle.mesh.proofs.Refined.{Face}
-use Rattle.rings.specs.Table.{rows, ringOf}
+use Rattle.mesh.proofs.SoundMeshes.{Face}
+use Rattle.rings.specs.Table.{Lent, rows, ringOf}
 use Rattle.rings.specs.Accepts.{Fit, Accepts}
 use Rattle.rings.proofs.Rows.{rows-ring}
 use Rattle.rings.proofs.Accepted.{accepted-fit, accepted-all}
 use Rattle.ring_row.proofs.OneRow.{room-editable}
-use Rattle.level.specs.Level.{Near}
+use Rattle.loop_points.specs.Level.{Near}
 use Rattle.reshape.specs.Reshape.{fromSmallest, beyond, behind, edgeRowsOf, edgeRows, faceRowsOf, faceRows, flipRowsOf, flipRows}
 use Rattle.reshape.proofs.Kites.{Kite, kite-at}
 use Rattle.reshape.proofs.FaceSplit as T
 use Rattle.reshape.proofs.SmallestCorner.{smallest-face}
 use Rattle.reshape.proofs.ReshapingKeepsSoundness.{edge-there, face-there, room-beside, room-corners}
-use Rattle.reshape_entry.proofs.ReadyRows.{fit-ready}
 use Rattle.reshape_tables.proofs.Judged.{EdgeThere, FaceThere, NewRow}
+use Rattle.reshape_entry.proofs.ReadyRows.{fit-ready}
 use Rattle.reshape_rows.specs.RowsReady.{EdgeReady, FaceReady, NewReady}
 
-rows-count : (n : ℕ) (vs rs : List ℕ) → rows n vs rs .count ≡ n
+rows-count : (n : ℕ) (t : Lent) → rows n t .count ≡ n
 unfolding rows
-rows-count n vs rs = refl
+rows-count n t = refl
 
-module _ {n : ℕ} {vs rs : List ℕ} {ps : List ℤ} (c : Accepts n vs rs ps) where
-  fit : Fit n vs rs
-  fit = accepted-fit n vs rs ps (accepted-all n vs rs ps c)
+module _ {n : ℕ} {t : Lent} {ps : List ℤ} (c : Accepts n t ps) where
+  fit : Fit n t
+  fit = accepted-fit n t ps (accepted-all n t ps c)
 
-  ring-at : (v : ℕ) → v < n → rows n vs rs .ring v ≡ ringOf vs rs v
-  ring-at v h = rows-ring n vs rs v h
+  ring-at : (v : ℕ) → v < n → rows n t .ring v ≡ ringOf t v
+  ring-at v h = rows-ring n t v h
 
   -- the edge named by u and v, with its ends in order and the vertices beside them
-  module _ {u v : ℕ} (t : EdgeThere n vs rs u v) {p q a b : ℕ} (p-is : p ≡ min u v) (q-is : q ≡ max u v)
-      (a-is : a ≡ beyond (rows n vs rs) p q) (b-is : b ≡ behind (rows n vs rs) p q) where
+  module _ {u v : ℕ} (o : EdgeThere n t u v) {p q a b : ℕ} (p-is : p ≡ min u v) (q-is : q ≡ max u v)
+      (a-is : a ≡ beyond (rows n t) p q) (b-is : b ≡ behind (rows n t) p q) where
     p-lt : p < n
-    p-lt = let x = t .u-lt in let y = t .v-lt in omega arith
+    p-lt = let x = o .u-lt in let y = o .v-lt in omega arith
 
-    m : q ∈ rows n vs rs .ring p
-    m = rw (p-is, q-is) (edge-there (rows n vs rs) (min u v) (max u v) (t .edge))
+    m : q ∈ rows n t .ring p
+    m = rw (p-is, q-is) (edge-there (rows n t) (min u v) (max u v) (o .edge))
 
-    kite : Kite (rows n vs rs) (c .sound) p q a b
+    kite : Kite (rows n t) (c .sound) p q a b
     unfolding rows
-    kite = rw (a-is, b-is) (kite-at (rows n vs rs) (c .sound) p q p-lt m)
+    kite = rw (a-is, b-is) (kite-at (rows n t) (c .sound) p q p-lt m)
 
-    short : (v : ℕ) → v < n → length (rows n vs rs .ring v) + 0 ≤ mostValence
+    short : (v : ℕ) → v < n → length (rows n t .ring v) + 0 ≤ mostValence
     unfolding rows
     short v h = let l = c .sound .proper v h .short in omega arith
 
-    pub edge-ready : EdgeReady n vs rs p q a b
+    pub edge-ready : EdgeReady n t p q a b
     unfolding rows
     edge-ready =
-        let M : Mesh = rows n vs rs in
+        let M : Mesh = rows n t in
         let k = kite in
-        let r = room-beside M p q (rw (p-is, q-is) (t .room)) in
+        let r = room-beside M p q (rw (p-is, q-is) (o .room)) in
         let ra : length (M .ring a) < mostValence = rw a-is (r .0) in
         let rb : length (M .ring b) < mostValence = rw b-is (r .1) in
         record {
@@ -73,33 +73,33 @@ module _ {n : ℕ} {vs rs : List ℕ} {ps : List ℤ} (c : Accepts n vs rs ps) w
           b-lt = k .fb .w-lt;
         }
 
-    pub flip-rows : flipRowsOf (ringOf vs rs) p q a b ≡ flipRows (rows n vs rs) (min u v) (max u v)
+    pub flip-rows : flipRowsOf (ringOf t) p q a b ≡ flipRows (rows n t) (min u v) (max u v)
     unfolding flipRows
     flip-rows =
         let e = edge-ready in
         rw (← p-is, ← q-is, ← a-is, ← b-is, ring-at p (e .p-lt), ring-at q (e .q-lt), ring-at a (e .a-lt), ring-at b (e .b-lt))
 
-    pub edge-rows : edgeRowsOf (ringOf vs rs) p q a b n ≡ edgeRows (rows n vs rs) (min u v) (max u v)
+    pub edge-rows : edgeRowsOf (ringOf t) p q a b n ≡ edgeRows (rows n t) (min u v) (max u v)
     unfolding edgeRows
     edge-rows =
         let e = edge-ready in
-        rw (rows-count n vs rs, ← p-is, ← q-is, ← a-is, ← b-is, ring-at p (e .p-lt), ring-at q (e .q-lt), ring-at a (e .a-lt), ring-at b (e .b-lt))
+        rw (rows-count n t, ← p-is, ← q-is, ← a-is, ← b-is, ring-at p (e .p-lt), ring-at q (e .q-lt), ring-at a (e .a-lt), ring-at b (e .b-lt))
 
   -- the face named by u, v and w, from its smallest corner on
-  module _ {u v w : ℕ} (t : FaceThere n vs rs u v w) {x y z : ℕ} (x-is : x ≡ fromSmallest u v w .one) (y-is : y ≡ fromSmallest u v w .two)
+  module _ {u v w : ℕ} (o : FaceThere n t u v w) {x y z : ℕ} (x-is : x ≡ fromSmallest u v w .one) (y-is : y ≡ fromSmallest u v w .two)
       (z-is : z ≡ fromSmallest u v w .three) where
-    triangle : Face (rows n vs rs) (c .sound) y x z
+    triangle : Face (rows n t) (c .sound) y x z
     unfolding rows
     triangle =
-        let M : Mesh = rows n vs rs in
-        rw (x-is, y-is, z-is) (smallest-face M (c .sound) u v w (face-there M (c .sound) u v w (t .v-lt) (t .face)))
+        let M : Mesh = rows n t in
+        rw (x-is, y-is, z-is) (smallest-face M (c .sound) u v w (face-there M (c .sound) u v w (o .v-lt) (o .face)))
 
-    pub face-ready : FaceReady n vs rs x y z
+    pub face-ready : FaceReady n t x y z
     unfolding rows
     face-ready =
-        let M : Mesh = rows n vs rs in
+        let M : Mesh = rows n t in
         let f = triangle in
-        let r = room-corners M u v w (t .room) in
+        let r = room-corners M u v w (o .room) in
         let rx : length (M .ring x) < mostValence = rw x-is (r .0) in
         let ry : length (M .ring y) < mostValence = rw y-is (r .1) in
         let rz : length (M .ring z) < mostValence = rw z-is (r .2) in
@@ -115,14 +115,14 @@ module _ {n : ℕ} {vs rs : List ℕ} {ps : List ℤ} (c : Accepts n vs rs ps) w
           w-lt = f .w-lt;
         }
 
-    pub face-rows : faceRowsOf (ringOf vs rs) x y z n ≡ faceRows (rows n vs rs) (fromSmallest u v w)
+    pub face-rows : faceRowsOf (ringOf t) x y z n ≡ faceRows (rows n t) (fromSmallest u v w)
     unfolding faceRows
     face-rows =
         let f = face-ready in
-        rw (rows-count n vs rs, ← x-is, ← y-is, ← z-is, ring-at x (f .u-lt), ring-at y (f .v-lt), ring-at z (f .w-lt))
+        rw (rows-count n t, ← x-is, ← y-is, ← z-is, ring-at x (f .u-lt), ring-at y (f .v-lt), ring-at z (f .w-lt))
 
 -- vertices below n are below m
-pub ready-below : {n m : ℕ} {vs rs : List ℕ} {p q a b : ℕ} → n ≤ m → EdgeReady n vs rs p q a b → EdgeReady m vs rs p q a b
+pub ready-below : {n m : ℕ} {t : Lent} {p q a b : ℕ} → n ≤ m → EdgeReady n t p q a b → EdgeReady m t p q a b
 ready-below l e =
     let x = e .p-lt in
     let y = e .q-lt in
@@ -141,12 +141,12 @@ ready-below l e =
     }
 
 -- the new vertex n has a number, a row and a point, and the points before it lie in the range
-pub record NewPlace (n : ℕ) (vs rs : List ℕ) (ps : List ℤ) : Type 0 where
-  pub new : NewReady vs rs n
+pub record NewPlace (n : ℕ) (t : Lent) (ps : List ℤ) : Type 0 where
+  pub new : NewReady t n
   pub near : Near n ps
   pub point : n * 3 + 3 ≤ length ps
 
-pub new-place : {n : ℕ} {vs rs : List ℕ} {ps : List ℤ} → Accepts n vs rs ps → NewRow n vs rs ps → NewPlace n vs rs ps
+pub new-place : {n : ℕ} {t : Lent} {ps : List ℤ} → Accepts n t ps → NewRow n t ps → NewPlace n t ps
 new-place a r = record {
   new = record { row = room-editable (r .room) (omega arith); number = r .number };
   near = record { points = a .points; near = a .near };

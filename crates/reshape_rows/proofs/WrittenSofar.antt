@@ -10,7 +10,7 @@ use Rattle.mesh.specs.Limits.{mostValence}
 use Rattle.mesh.specs.Ring.{_∈_}
 use Rattle.mesh.specs.Edits.{erase, replace, insertAfter}
 use Rattle.mesh.proofs.EditedEntries.{erase-length, replace-length, insert-after-length}
-use Rattle.rings.specs.Table.{ringOf}
+use Rattle.rings.specs.Table.{Lent, lent, valenceAt, ringOf}
 use Rattle.ring_row.specs.Places.{Editable}
 use Rattle.ring_row.specs.Edit.{valencesWith, ringsWith}
 use Rattle.reshape.specs.Rows.{Row, row}
@@ -20,54 +20,54 @@ use Rattle.reshape_entry.specs.Ready.{Ready}
 use Rattle.reshape_entry.proofs.EntryWritten.{Wrote, ready-valence, ready-long}
 
 -- the tables with these rows
-pub record Sofar (l : List Row) (vs rs vs′ rs′ : List ℕ) : Type 0 where
-  pub rings : rs′ ≡ ringsBy l rs
-  pub valences : vs′ ≡ valencesBy l vs
-  pub fit : Writable vs rs l
+pub record Sofar (l : List Row) (t t′ : Lent) : Type 0 where
+  pub rings : t′ .rings ≡ ringsBy l (t .rings)
+  pub valences : t′ .valences ≡ valencesBy l (t .valences)
+  pub fit : Writable t l
 
-pub none-yet : {vs rs : List ℕ} → Sofar [] vs rs vs rs
+pub none-yet : {t : Lent} → Sofar [] t t
 none-yet = record { rings = refl; valences = refl; fit = tt }
 
-module _ {l : List Row} {vs rs vs′ rs′ : List ℕ} (f : Sofar l vs rs vs′ rs′) where
+module _ {l : List Row} {t t′ : Lent} (f : Sofar l t t′) where
   -- one row more, whole
-  pub row-on : {vs″ rs″ : List ℕ} {v : ℕ} {ring : List ℕ} → Editable vs rs v → length ring ≤ mostValence → Wrote vs′ rs′ v ring vs″ rs″
-      → Sofar (row v ring ∷ l) vs rs vs″ rs″
+  pub row-on : {t″ : Lent} {v : ℕ} {ring : List ℕ} → Editable t v → length ring ≤ mostValence → Wrote t′ v ring t″
+      → Sofar (row v ring ∷ l) t t″
   row-on {v = v} {ring = ring} e h w = record {
-    rings = w .0 ∙ ap (λ (t : List ℕ). ringsWith true t v ring) (f .rings);
-    valences = w .1 ∙ ap (λ (t : List ℕ). valencesWith true t v ring) (f .valences);
+    rings = w .0 ∙ ap (λ (table : List ℕ). ringsWith true table v ring) (f .rings);
+    valences = w .1 ∙ ap (λ (table : List ℕ). valencesWith true table v ring) (f .valences);
     fit = (e, (h, f .fit));
   }
 
-  module _ {more v c : ℕ} (r : Ready more vs rs v c) (d : Unnamed v l) where
-    ring-on : ringOf vs′ rs′ v ≡ ringOf vs rs v
+  module _ {more v c : ℕ} (r : Ready more t v c) (d : Unnamed v l) where
+    ring-on : ringOf t′ v ≡ ringOf t v
     ring-on =
-        ap₂ (λ (a b : List ℕ). ringOf a b v) (f .valences) (f .rings)
-        ∙ ring-unnamed vs rs l (f .fit) v d (ready-valence r)
+        ap₂ (λ (a b : List ℕ). ringOf (lent a b) v) (f .valences) (f .rings)
+        ∙ ring-unnamed t l (f .fit) v d (ready-valence r)
 
-    pub ready-on : Ready more vs′ rs′ v c
+    pub ready-on : Ready more t′ v c
     ready-on =
-        let k : getD vs′ v 0 ≡ getD vs v 0 = ap (λ (t : List ℕ). getD t v 0) (f .valences) ∙ valence-unnamed vs rs l (f .fit) v d in
+        let k : valenceAt t′ v ≡ valenceAt t v = ap (λ (table : List ℕ). getD table v 0) (f .valences) ∙ valence-unnamed t l (f .fit) v d in
         record {
-          row = rw (f .valences, f .rings) (editable-by vs rs l (f .fit) (r .row));
+          row = rw (f .valences, f .rings) (editable-by t l (f .fit) (r .row));
           room = omega (arith, r .room);
-          there = subst (λ (t : List ℕ). c ∈ t) (sym ring-on) (r .there);
+          there = subst (λ (table : List ℕ). c ∈ table) (sym ring-on) (r .there);
         }
 
-    edit-on : {vs″ rs″ : List ℕ} (edit : List ℕ → List ℕ) → length (edit (ringOf vs rs v)) ≤ mostValence
-        → Wrote vs′ rs′ v (edit (ringOf vs′ rs′ v)) vs″ rs″ → Sofar (row v (edit (ringOf vs rs v)) ∷ l) vs rs vs″ rs″
+    edit-on : {t″ : Lent} (edit : List ℕ → List ℕ) → length (edit (ringOf t v)) ≤ mostValence
+        → Wrote t′ v (edit (ringOf t′ v)) t″ → Sofar (row v (edit (ringOf t v)) ∷ l) t t″
     edit-on edit h w = row-on (r .row) h (rw ring-on at w)
 
-  module _ {vs″ rs″ : List ℕ} {v c : ℕ} where
-    pub put-on : Ready 1 vs rs v c → Unnamed v l → (x : ℕ) → Wrote vs′ rs′ v (insertAfter c x (ringOf vs′ rs′ v)) vs″ rs″
-        → Sofar (row v (insertAfter c x (ringOf vs rs v)) ∷ l) vs rs vs″ rs″
+  module _ {t″ : Lent} {v c : ℕ} where
+    pub put-on : Ready 1 t v c → Unnamed v l → (x : ℕ) → Wrote t′ v (insertAfter c x (ringOf t′ v)) t″
+        → Sofar (row v (insertAfter c x (ringOf t v)) ∷ l) t t″
     put-on r d x w =
-        edit-on r d (insertAfter c x) (omega (arith, insert-after-length c (ringOf vs rs v) (r .there) x, ready-long r, r .room)) w
+        edit-on r d (insertAfter c x) (omega (arith, insert-after-length c (ringOf t v) (r .there) x, ready-long r, r .room)) w
 
-    pub out-on : Ready 0 vs rs v c → Unnamed v l → Wrote vs′ rs′ v (erase c (ringOf vs′ rs′ v)) vs″ rs″
-        → Sofar (row v (erase c (ringOf vs rs v)) ∷ l) vs rs vs″ rs″
-    out-on r d w = edit-on r d (erase c) (omega (arith, erase-length c (ringOf vs rs v) (r .there), ready-long r, r .room)) w
+    pub out-on : Ready 0 t v c → Unnamed v l → Wrote t′ v (erase c (ringOf t′ v)) t″
+        → Sofar (row v (erase c (ringOf t v)) ∷ l) t t″
+    out-on r d w = edit-on r d (erase c) (omega (arith, erase-length c (ringOf t v) (r .there), ready-long r, r .room)) w
 
-    pub exchanged-on : Ready 0 vs rs v c → Unnamed v l → (x : ℕ) → Wrote vs′ rs′ v (replace c x (ringOf vs′ rs′ v)) vs″ rs″
-        → Sofar (row v (replace c x (ringOf vs rs v)) ∷ l) vs rs vs″ rs″
+    pub exchanged-on : Ready 0 t v c → Unnamed v l → (x : ℕ) → Wrote t′ v (replace c x (ringOf t′ v)) t″
+        → Sofar (row v (replace c x (ringOf t v)) ∷ l) t t″
     exchanged-on r d x w =
-        edit-on r d (replace c x) (omega (arith, replace-length c (ringOf vs rs v) (r .there) x, ready-long r, r .room)) w
+        edit-on r d (replace c x) (omega (arith, replace-length c (ringOf t v) (r .there) x, ready-long r, r .room)) w

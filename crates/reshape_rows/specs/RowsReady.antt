@@ -1,9 +1,10 @@
+-- For inside.
 -- What is known of the tables once an edit of the mesh is accepted: which entries stand in which rings, and which vertices differ.
 -- Assumes nothing.
-use mathlib.Core.List.{List}
 use mathlib.Core.Logic.{_≢_}
 use Prim.Native.Nat.{ℕ, _<_}
 use Rattle.mesh.specs.Limits.{mostCount}
+use Rattle.rings.specs.Table.{Lent}
 use Rattle.ring_row.specs.Places.{Editable}
 use Rattle.reshape_entry.specs.Ready.{Ready}
 
@@ -17,11 +18,11 @@ pub record Four (p q a b : ℕ) : Type 0 where
   pub a-b : a ≢ b
 
 -- the edge p, q with a and b beside it, which have room for one entry more; all four are below n
-pub record EdgeReady (n : ℕ) (vs rs : List ℕ) (p q a b : ℕ) : Type 0 where
-  pub at-p : Ready 0 vs rs p q
-  pub at-q : Ready 0 vs rs q p
-  pub at-a : Ready 1 vs rs a p
-  pub at-b : Ready 1 vs rs b q
+pub record EdgeReady (n : ℕ) (t : Lent) (p q a b : ℕ) : Type 0 where
+  pub at-p : Ready 0 t p q
+  pub at-q : Ready 0 t q p
+  pub at-a : Ready 1 t a p
+  pub at-b : Ready 1 t b q
   pub apart : Four p q a b
   pub p-lt : p < n
   pub q-lt : q < n
@@ -29,10 +30,10 @@ pub record EdgeReady (n : ℕ) (vs rs : List ℕ) (p q a b : ℕ) : Type 0 where
   pub b-lt : b < n
 
 -- the face u, v, w, whose corners have room for one entry more; all three are below n
-pub record FaceReady (n : ℕ) (vs rs : List ℕ) (u v w : ℕ) : Type 0 where
-  pub at-u : Ready 1 vs rs u w
-  pub at-v : Ready 1 vs rs v u
-  pub at-w : Ready 1 vs rs w v
+pub record FaceReady (n : ℕ) (t : Lent) (u v w : ℕ) : Type 0 where
+  pub at-u : Ready 1 t u w
+  pub at-v : Ready 1 t v u
+  pub at-w : Ready 1 t w v
   pub u-v : u ≢ v
   pub u-w : u ≢ w
   pub v-w : v ≢ w
@@ -41,6 +42,6 @@ pub record FaceReady (n : ℕ) (vs rs : List ℕ) (u v w : ℕ) : Type 0 where
   pub w-lt : w < n
 
 -- a number and a row for the new vertex x
-pub record NewReady (vs rs : List ℕ) (x : ℕ) : Type 0 where
-  pub row : Editable vs rs x
+pub record NewReady (t : Lent) (x : ℕ) : Type 0 where
+  pub row : Editable t x
   pub number : x < mostCount

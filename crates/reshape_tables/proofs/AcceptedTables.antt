@@ -12,7 +12,7 @@ use Rattle.mesh.specs.Mesh.{Mesh, Sound, edges, faces}
 use Rattle.mesh.proofs.Lists.{lt-split}
 use Rattle.mesh.proofs.Rings.{All}
 use Rattle.units.specs.Coordinate.{InRange}
-use Rattle.rings.specs.Table.{rows, coordinateAt}
+use Rattle.rings.specs.Table.{Lent, lent, rows, coordinateAt}
 use Rattle.rings.specs.Verdict.{withCounts}
 use Rattle.rings.specs.Check.{checkAnswer}
 use Rattle.rings.specs.Accepts.{Accepts}
@@ -20,7 +20,7 @@ use Rattle.rings.specs.declared.Counted.the-variants.{Counts}
 use Rattle.rings.proofs.Tables.{length-put, put-before, put-within}
 use Rattle.rings.proofs.Accepted.{accepted-all}
 use Rattle.reshape.specs.Rows.{Row, rewritten}
-use Rattle.level.specs.Level.{pointBy, coordinates}
+use Rattle.loop_points.specs.Level.{pointBy, coordinates}
 use Rattle.reshape.specs.Mean.{meanMask, meanAt}
 use Rattle.reshape.proofs.MeansStayInRange.{mean-stays-in-range}
 use Rattle.reshape_tables.specs.Written.{valencesBy, ringsBy, meanPut}
@@ -51,47 +51,47 @@ module _ (n : ℕ) (l : List ℕ) (ps : List ℤ) (long : n * 3 + 3 ≤ length p
 
 -- ---- all three tables
 
-module _ (n : ℕ) (vs rs : List ℕ) (ps : List ℤ) (a : Accepts n vs rs ps) (l : List Row) where
-  pub flip-passes : RowsFit n l → Sound (rewritten (rows n vs rs) n l) → Accepts n (valencesBy l vs) (ringsBy l rs) ps
+module _ (n : ℕ) (t : Lent) (ps : List ℤ) (a : Accepts n t ps) (l : List Row) where
+  pub flip-passes : RowsFit n l → Sound (rewritten (rows n t) n l) → Accepts n (lent (valencesBy l (t .valences)) (ringsBy l (t .rings))) ps
   flip-passes f s =
-      let w = fit-writable n vs rs (a .room) l f in
-      let k = lengths-by vs rs l w in
+      let w = fit-writable n t (a .room) l f in
+      let k = lengths-by t l w in
       let r = a .room in
       record {
         low = a .low;
         high = a .high;
         room = record { valences = omega (arith, r .valences); rings = omega (arith, r .rings) };
         points = a .points;
-        most = λ v h. valence-by vs rs l w v (inl (a .most v h));
-        sound = subst Sound (sym (rows-by n n vs rs (a .room) (a .most) l f (λ v h. inl h))) s;
+        most = λ v h. valence-by t l w v (inl (a .most v h));
+        sound = subst Sound (sym (rows-by n n t (a .room) (a .most) l f (λ v h. inl h))) s;
         near = a .near;
       }
 
   -- with a row and a point for vertex n too
-  module _ (r : NewRow n vs rs ps) (f : RowsFit (suc n) l) (named : Named n l) where
+  module _ (r : NewRow n t ps) (f : RowsFit (suc n) l) (named : Named n l) where
     old-or-new : (v : ℕ) → v < suc n → (v < n) ⊎ Named v l
     old-or-new v h = ⊎-elim (λ g. inl (g .1)) (λ g. let e : n ≡ v = omega arith in inr (subst (λ y. Named y l) e named)) (lt-split v n)
 
-    pub split-rows : rows (suc n) (valencesBy l vs) (ringsBy l rs) ≡ rewritten (rows n vs rs) (suc n) l
-    split-rows = rows-by n (suc n) vs rs (r .room) (a .most) l f old-or-new
+    pub split-rows : rows (suc n) (lent (valencesBy l (t .valences)) (ringsBy l (t .rings))) ≡ rewritten (rows n t) (suc n) l
+    split-rows = rows-by n (suc n) t (r .room) (a .most) l f old-or-new
 
     module _ (corners : List ℕ) (some : 0 < length corners) (below : All (λ v. v < n) corners) where
       new-near : (axis : ℕ) → axis < 3 → InRange (coordinateAt (meanPut n corners ps) axis n)
       new-near axis g =
           rw (coordinate-new n corners ps (r .points) axis g)
-          (mean-stays-in-range n (coordinateAt ps axis) corners some below mostUnits (λ u t. a .near u t axis g))
+          (mean-stays-in-range n (coordinateAt ps axis) corners some below mostUnits (λ u z. a .near u z axis g))
 
-      pub split-passes : Sound (rewritten (rows n vs rs) (suc n) l) → Accepts (suc n) (valencesBy l vs) (ringsBy l rs) (meanPut n corners ps)
+      pub split-passes : Sound (rewritten (rows n t) (suc n) l) → Accepts (suc n) (lent (valencesBy l (t .valences)) (ringsBy l (t .rings))) (meanPut n corners ps)
       split-passes s =
-          let w = fit-writable (suc n) vs rs (r .room) l f in
-          let k = lengths-by vs rs l w in
+          let w = fit-writable (suc n) t (r .room) l f in
+          let k = lengths-by t l w in
           let p = positions-kept n corners ps (r .points) in
           record {
             low = omega (arith, a .low);
             high = omega (arith, r .number);
             room = record { valences = omega (arith, r .room .valences); rings = omega (arith, r .room .rings) };
             points = omega (arith, r .points);
-            most = λ v h. valence-by vs rs l w v (⊎-elim (λ g. inl (a .most v g)) inr (old-or-new v h));
+            most = λ v h. valence-by t l w v (⊎-elim (λ g. inl (a .most v g)) inr (old-or-new v h));
             sound = subst Sound (sym split-rows) s;
             near = λ v h axis g.
                 ⊎-elim
@@ -101,7 +101,7 @@ module _ (n : ℕ) (vs rs : List ℕ) (ps : List ℤ) (a : Accepts n vs rs ps) (
           }
 
 -- what the check then answers
-pub passes-counts : (n : ℕ) (vs rs : List ℕ) (ps : List ℤ) (N : Mesh) → Accepts n vs rs ps → rows n vs rs ≡ N
-    → checkAnswer n vs rs ps ≡ Counts n (edges N) (faces N)
+pub passes-counts : (n : ℕ) (t : Lent) (ps : List ℤ) (N : Mesh) → Accepts n t ps → rows n t ≡ N
+    → checkAnswer n t ps ≡ Counts n (edges N) (faces N)
 unfolding checkAnswer withCounts
-passes-counts n vs rs ps N a e = rw (accepted-all n vs rs ps a, e)
+passes-counts n t ps N a e = rw (accepted-all n t ps a, e)

@@ -9,7 +9,7 @@ use lib.ListN.{length, getD}
 use Rattle.mesh.specs.Limits.{mostCount}
 use Rattle.mesh.specs.Search.{sum}
 use Rattle.units.specs.declared.Point.{Point}
-use Rattle.rings.specs.Table.{put}
+use Rattle.rings.specs.Table.{Lent, lent, put}
 use Rattle.rings.specs.Verdict.{after, withCounts}
 use Rattle.rings.specs.Check.{countsOf}
 use Rattle.rings.specs.declared.Refusal.{Refusal}
@@ -17,7 +17,7 @@ use Rattle.rings.specs.declared.Verdict.the-variants.{Accepted, Refused}
 use Rattle.rings.specs.declared.Counted.{Counted}
 use Rattle.rings.specs.declared.Counted.the-variants as counted
 use Rattle.rings.proofs.Accepted.{accepted-only, check-counts}
-use Rattle.level.specs.Level.{pointBy, coordinates}
+use Rattle.loop_points.specs.Level.{pointBy, coordinates}
 use Rattle.reshape.specs.Rows.{Row}
 use Rattle.reshape.specs.Mean.{meanMask}
 use Rattle.reshape_tables.specs.Written.{valencesBy, ringsBy, meanPut}
@@ -43,72 +43,72 @@ module _ (e : Reshaping) {r : Refusal} (h : Refused r ≡ e .verdict) where
   unfolding reshapedPositions after
   refused-positions n ps = rw (← h)
 
-  pub flip-refused : (vs rs : List ℕ) → (counted.Refused r ≡ reshapeAnswer e) × ((rs ≡ reshapedRings e rs) × (vs ≡ reshapedValences e vs))
-  flip-refused vs rs = (refused-answer, (refused-rings rs, refused-valences vs))
+  pub flip-refused : (t : Lent) → (counted.Refused r ≡ reshapeAnswer e) × ((t .rings ≡ reshapedRings e (t .rings)) × (t .valences ≡ reshapedValences e (t .valences)))
+  flip-refused t = (refused-answer, (refused-rings (t .rings), refused-valences (t .valences)))
 
-  pub split-refused : (n : ℕ) (vs rs : List ℕ) (ps : List ℤ)
-      → (counted.Refused r ≡ reshapeAnswer e) × ((rs ≡ reshapedRings e rs) × ((vs ≡ reshapedValences e vs) × (ps ≡ reshapedPositions e n ps)))
-  split-refused n vs rs ps = (refused-answer, (refused-rings rs, (refused-valences vs, refused-positions n ps)))
+  pub split-refused : (n : ℕ) (t : Lent) (ps : List ℤ)
+      → (counted.Refused r ≡ reshapeAnswer e) × ((t .rings ≡ reshapedRings e (t .rings)) × ((t .valences ≡ reshapedValences e (t .valences)) × (ps ≡ reshapedPositions e n ps)))
+  split-refused n t ps = (refused-answer, (refused-rings (t .rings), (refused-valences (t .valences), refused-positions n ps)))
 
 -- ---- accepted
 
 -- the edit is accepted, its rows are l, and the tables of n vertices after it pass the check
-pub record EditDone (e : Reshaping) (n : ℕ) (vs rs : List ℕ) (ps : List ℤ) (l : List Row) : Type 0 where
+pub record EditDone (e : Reshaping) (n : ℕ) (t : Lent) (ps : List ℤ) (l : List Row) : Type 0 where
   pub accepts : Accepted ≡ e .verdict
   pub rows-are : l ≡ e .written
-  pub passes : Passed e n (reshapedValences e vs) (reshapedRings e rs) ps
+  pub passes : Passed e n (lent (reshapedValences e (t .valences)) (reshapedRings e (t .rings))) ps
 
 -- once the rows are written
-module _ {e : Reshaping} {n : ℕ} {vs rs : List ℕ} {ps : List ℤ} {l : List Row} (d : EditDone e n vs rs ps l)
-    {rs′ vs′ : List ℕ} (k : rs′ ≡ ringsBy l rs) (w : vs′ ≡ valencesBy l vs) where
-  rings-written : rs′ ≡ reshapedRings e rs
+module _ {e : Reshaping} {n : ℕ} {t : Lent} {ps : List ℤ} {l : List Row} (d : EditDone e n t ps l)
+    {rs′ vs′ : List ℕ} (k : rs′ ≡ ringsBy l (t .rings)) (w : vs′ ≡ valencesBy l (t .valences)) where
+  rings-written : rs′ ≡ reshapedRings e (t .rings)
   unfolding reshapedRings after
-  rings-written = k ∙ rw (← d .accepts) (ap (λ (t : List Row). ringsBy t rs) (d .rows-are))
+  rings-written = k ∙ rw (← d .accepts) (ap (λ (rows : List Row). ringsBy rows (t .rings)) (d .rows-are))
 
-  valences-written : vs′ ≡ reshapedValences e vs
+  valences-written : vs′ ≡ reshapedValences e (t .valences)
   unfolding reshapedValences after
-  valences-written = w ∙ rw (← d .accepts) (ap (λ (t : List Row). valencesBy t vs) (d .rows-are))
+  valences-written = w ∙ rw (← d .accepts) (ap (λ (rows : List Row). valencesBy rows (t .valences)) (d .rows-are))
 
   -- there is a valence for each vertex
   pub edited-long : (n ≤ length vs′) × (n ≤ mostCount)
-  edited-long = let a = accepted-only n _ _ ps (d .passes .checks) in rw valences-written (a .room .valences, a .high)
+  edited-long = let a = accepted-only n _ ps (d .passes .checks) in rw valences-written (a .room .valences, a .high)
 
   -- V, E and F as they are counted in the tables
   pub edited-done : {x : Counted} → x ≡ countsOf n (sum (λ v. getD vs′ v 0) n)
-      → (x ≡ reshapeAnswer e) × ((rs′ ≡ reshapedRings e rs) × (vs′ ≡ reshapedValences e vs))
+      → (x ≡ reshapeAnswer e) × ((rs′ ≡ reshapedRings e (t .rings)) × (vs′ ≡ reshapedValences e (t .valences)))
   edited-done s = (
     s
         ∙ ap (λ (y : List ℕ). countsOf n (sum (λ v. getD y v 0) n)) valences-written
-        ∙ check-counts n _ _ ps (sym (d .passes .checks))
+        ∙ check-counts n _ ps (sym (d .passes .checks))
         ∙ d .passes .answers,
     (rings-written, valences-written),
   )
 
 -- a split of n vertices whose new one lies between these corners
-pub record SplitDone (e : Reshaping) (n : ℕ) (vs rs : List ℕ) (ps : List ℤ) (l : List Row) (corners : List ℕ) : Type 0 where
+pub record SplitDone (e : Reshaping) (n : ℕ) (t : Lent) (ps : List ℤ) (l : List Row) (corners : List ℕ) : Type 0 where
   pub accepts : Accepted ≡ e .verdict
   pub rows-are : l ≡ e .written
   pub between-are : corners ≡ e .between
-  pub passes : Passed e (suc n) (reshapedValences e vs) (reshapedRings e rs) (reshapedPositions e n ps)
+  pub passes : Passed e (suc n) (lent (reshapedValences e (t .valences)) (reshapedRings e (t .rings))) (reshapedPositions e n ps)
 
 -- once its rows and its point are written
-module _ {e : Reshaping} {n : ℕ} {vs rs : List ℕ} {ps : List ℤ} {l : List Row} {corners : List ℕ} (d : SplitDone e n vs rs ps l corners) where
-  edited : EditDone e (n + 1) vs rs (reshapedPositions e n ps) l
+module _ {e : Reshaping} {n : ℕ} {t : Lent} {ps : List ℤ} {l : List Row} {corners : List ℕ} (d : SplitDone e n t ps l corners) where
+  edited : EditDone e (n + 1) t (reshapedPositions e n ps) l
   edited = record { accepts = d .accepts; rows-are = d .rows-are; passes = rw (add-one n) (d .passes) }
 
-  module _ {ps′ : List ℤ} {point : Point} (t : ps′ ≡ put ps (n * 3) (coordinates point)) (m : point ≡ pointBy (meanMask corners) ps) where
+  module _ {ps′ : List ℤ} {point : Point} (table : ps′ ≡ put ps (n * 3) (coordinates point)) (m : point ≡ pointBy (meanMask corners) ps) where
     positions-written : ps′ ≡ reshapedPositions e n ps
     unfolding reshapedPositions after meanPut
     positions-written =
-        t
+        table
         ∙ ap (λ (x : Point). put ps (n * 3) (coordinates x)) m
         ∙ rw (← d .accepts) (ap (λ (y : List ℕ). meanPut n y ps) (d .between-are))
 
-  module _ {rs′ vs′ : List ℕ} (k : rs′ ≡ ringsBy l rs) (w : vs′ ≡ valencesBy l vs) where
+  module _ {rs′ vs′ : List ℕ} (k : rs′ ≡ ringsBy l (t .rings)) (w : vs′ ≡ valencesBy l (t .valences)) where
     pub split-long : (n + 1 ≤ length vs′) × (n + 1 ≤ mostCount)
     split-long = edited-long edited k w
 
     pub split-done : {ps′ : List ℤ} {point : Point} → ps′ ≡ put ps (n * 3) (coordinates point) → point ≡ pointBy (meanMask corners) ps
         → {x : Counted} → x ≡ countsOf (n + 1) (sum (λ v. getD vs′ v 0) (n + 1))
-        → (x ≡ reshapeAnswer e) × ((rs′ ≡ reshapedRings e rs) × ((vs′ ≡ reshapedValences e vs) × (ps′ ≡ reshapedPositions e n ps)))
-    split-done t m s = let f = edited-done edited k w s in (f .0, (f .1 .0, (f .1 .1, positions-written t m)))
+        → (x ≡ reshapeAnswer e) × ((rs′ ≡ reshapedRings e (t .rings)) × ((vs′ ≡ reshapedValences e (t .valences)) × (ps′ ≡ reshapedPositions e n ps)))
+    split-done table m s = let f = edited-done edited k w s in (f .0, (f .1 .0, (f .1 .1, positions-written table m)))

@@ -11,10 +11,10 @@ use borrow.Author.Tests.{leb-false}
 use Rattle.mesh.proofs.First.{or-false}
 use Rattle.mesh.specs.Mesh.{Sound}
 use Rattle.mesh.proofs.First.{or-comm, or-swap}
-use Rattle.rings.specs.Table.{rows}
+use Rattle.rings.specs.Table.{Lent, rows}
 use Rattle.rings.specs.Verdict.{refuseIf, andThen}
 use Rattle.rings.specs.Check.{checkVerdict}
-use Rattle.rings.specs.declared.Refusal.the-variants.{NoVertex, RingFull, NoEdgeOrFace}
+use Rattle.rings.specs.declared.Refusal.the-variants.{NoSuchVertex, RingFull, NoEdgeOrFace}
 use Rattle.rings.specs.declared.Verdict.{Verdict}
 use Rattle.rings.specs.declared.Verdict.the-variants.{Accepted, Refused}
 use Rattle.rings.proofs.Accepted.{accepted-only}
@@ -24,54 +24,54 @@ use Rattle.reshape_tables.specs.Calls.{edgeVerdict, faceVerdict, turnVer
 use Rattle.reshape_tables.specs.Calls.{splitEdgeVerdict, splitFaceVerdict, flipVerdict, edgeSplitting, faceSplitting, edgeFlipping}
 use Rattle.reshape_tables.proofs.Judged.{face-split-judged}
 
-module _ (n : ℕ) (vs rs : List ℕ) (ps : List ℤ) where
-  edge-verdict-same : (u v : ℕ) → edgeVerdict n vs rs u v ≡ edgeVerdict n vs rs v u
+module _ (n : ℕ) (t : Lent) (ps : List ℤ) where
+  edge-verdict-same : (u v : ℕ) → edgeVerdict n t u v ≡ edgeVerdict n t v u
   unfolding edgeVerdict
   edge-verdict-same u v = rw (min-comm u v, max-comm u v, or-comm (leb n u) (leb n v))
 
-  pub edge-split-from-either-end : (u v : ℕ) → edgeSplitting n vs rs ps u v ≡ edgeSplitting n vs rs ps v u
+  pub edge-split-from-either-end : (u v : ℕ) → edgeSplitting n t ps u v ≡ edgeSplitting n t ps v u
   unfolding edgeSplitting splitEdgeVerdict splitEdge
   edge-split-from-either-end u v = rw (edge-verdict-same u v, min-comm u v, max-comm u v)
 
-  pub edge-flip-from-either-end : (u v : ℕ) → edgeFlipping n vs rs ps u v ≡ edgeFlipping n vs rs ps v u
+  pub edge-flip-from-either-end : (u v : ℕ) → edgeFlipping n t ps u v ≡ edgeFlipping n t ps v u
   unfolding edgeFlipping flipVerdict turnVerdict flip
   edge-flip-from-either-end u v = rw (edge-verdict-same u v, min-comm u v, max-comm u v)
 
-module _ (n : ℕ) (vs rs : List ℕ) where
+module _ (n : ℕ) (t : Lent) where
   -- in a sound mesh
-  face-verdict-same : Sound (rows n vs rs) → (u v w : ℕ) → faceVerdict n vs rs u v w ≡ faceVerdict n vs rs v w u
+  face-verdict-same : Sound (rows n t) → (u v w : ℕ) → faceVerdict n t u v w ≡ faceVerdict n t v w u
   unfolding faceVerdict refuseIf rows
   face-verdict-same S u v w = go (leb n u || (leb n v || leb n w)) refl
     where
       turned : leb n v || (leb n w || leb n u) ≡ leb n u || (leb n v || leb n w)
-      turned = ap (λ (t : Bool). leb n v || t) (or-comm (leb n w) (leb n u)) ∙ or-swap (leb n v) (leb n u) (leb n w)
+      turned = ap (λ (z : Bool). leb n v || z) (or-comm (leb n w) (leb n u)) ∙ or-swap (leb n v) (leb n u) (leb n w)
 
       go : (b : Bool) → leb n u || (leb n v || leb n w) ≡ b
-          → cond (leb n u || (leb n v || leb n w)) (Refused (NoVertex 0))
-          (cond (noFace (rows n vs rs) u v w) (Refused NoEdgeOrFace) (cond (fullCorner (rows n vs rs) u v w) (Refused RingFull) Accepted))
-          ≡ cond (leb n v || (leb n w || leb n u)) (Refused (NoVertex 0))
-          (cond (noFace (rows n vs rs) v w u) (Refused NoEdgeOrFace) (cond (fullCorner (rows n vs rs) v w u) (Refused RingFull) Accepted))
+          → cond (leb n u || (leb n v || leb n w)) (Refused (NoSuchVertex 0))
+          (cond (noFace (rows n t) u v w) (Refused NoEdgeOrFace) (cond (fullCorner (rows n t) u v w) (Refused RingFull) Accepted))
+          ≡ cond (leb n v || (leb n w || leb n u)) (Refused (NoSuchVertex 0))
+          (cond (noFace (rows n t) v w u) (Refused NoEdgeOrFace) (cond (fullCorner (rows n t) v w u) (Refused RingFull) Accepted))
       go true e = rw (turned, e)
       go false e =
           let k = or-false (leb n u) (leb n v || leb n w) e in
           let j = or-false (leb n v) (leb n w) (k .1) in
           rw (turned, e)
-          (rw (no-face-from-any-corner (rows n vs rs) S u v w (leb-false n v (j .0)) (leb-false n w (j .1)), full-corner-from-any-corner (rows n vs rs) u v w))
+          (rw (no-face-from-any-corner (rows n t) S u v w (leb-false n v (j .0)) (leb-false n w (j .1)), full-corner-from-any-corner (rows n t) u v w))
 
   module _ (ps : List ℤ) (u v w : ℕ) where
-    pub face-verdict-from-any-corner : splitFaceVerdict n vs rs ps u v w ≡ splitFaceVerdict n vs rs ps v w u
+    pub face-verdict-from-any-corner : splitFaceVerdict n t ps u v w ≡ splitFaceVerdict n t ps v w u
     unfolding splitFaceVerdict andThen
-    face-verdict-from-any-corner = go (checkVerdict n vs rs ps) refl
+    face-verdict-from-any-corner = go (checkVerdict n t ps) refl
       where
-        go : (c : Verdict) → checkVerdict n vs rs ps ≡ c
-            → andThen (checkVerdict n vs rs ps) (andThen (faceVerdict n vs rs u v w) (newVerdict n vs rs ps))
-            ≡ andThen (checkVerdict n vs rs ps) (andThen (faceVerdict n vs rs v w u) (newVerdict n vs rs ps))
-        go Accepted e = rw (face-verdict-same (accepted-only n vs rs ps e .sound) u v w)
+        go : (c : Verdict) → checkVerdict n t ps ≡ c
+            → andThen (checkVerdict n t ps) (andThen (faceVerdict n t u v w) (newVerdict n t ps))
+            ≡ andThen (checkVerdict n t ps) (andThen (faceVerdict n t v w u) (newVerdict n t ps))
+        go Accepted e = rw (face-verdict-same (accepted-only n t ps e .sound) u v w)
         go (Refused r) e = rw e
 
     -- and an accepted one is the same edit
-    pub face-split-from-any-corner : splitFaceVerdict n vs rs ps u v w ≡ Accepted → faceSplitting n vs rs ps u v w ≡ faceSplitting n vs rs ps v w u
+    pub face-split-from-any-corner : splitFaceVerdict n t ps u v w ≡ Accepted → faceSplitting n t ps u v w ≡ faceSplitting n t ps v w u
     unfolding faceSplitting splitFace rows
     face-split-from-any-corner h =
-        let j = face-split-judged n vs rs ps u v w h in
-        rw (face-verdict-from-any-corner, corners-from-any-corner (rows n vs rs) (j .0 .sound) u v w (j .1 .v-lt) (j .1 .face))
+        let j = face-split-judged n t ps u v w h in
+        rw (face-verdict-from-any-corner, corners-from-any-corner (rows n t) (j .0 .sound) u v w (j .1 .v-lt) (j .1 .face))

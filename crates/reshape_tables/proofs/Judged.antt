@@ -10,7 +10,7 @@ use lib.ListN.{length}
 use borrow.Author.Tests.{leb-false}
 use Rattle.mesh.specs.Limits.{mostCount}
 use Rattle.mesh.proofs.First.{or-false}
-use Rattle.rings.specs.Table.{rows}
+use Rattle.rings.specs.Table.{Lent, rows}
 use Rattle.rings.specs.Check.{shortTables, checkVerdict}
 use Rattle.rings.specs.Accepts.{Room, Accepts}
 use Rattle.rings.specs.declared.Verdict.the-variants.{Accepted}
@@ -22,79 +22,79 @@ use Rattle.reshape.proofs.ReshapingKeepsSoundness.{number-there}
 use Rattle.reshape_tables.specs.Calls.{edgeVerdict, faceVerdict, turnVerdict, newVerdict, splitEdgeVerdict, splitFaceVerdict, flipVerdict}
 
 -- there is a number and a row for a new vertex
-pub record NewRow (n : ℕ) (vs rs : List ℕ) (ps : List ℤ) : Type 0 where
+pub record NewRow (n : ℕ) (t : Lent) (ps : List ℤ) : Type 0 where
   pub number : n < mostCount
-  pub room : Room (suc n) vs rs
+  pub room : Room (suc n) t
   pub points : n * 3 + 3 ≤ length ps
 
 -- an edge that may be edited so far as reasons 3, 18 and 16 go
-pub record EdgeThere (n : ℕ) (vs rs : List ℕ) (u v : ℕ) : Type 0 where
+pub record EdgeThere (n : ℕ) (t : Lent) (u v : ℕ) : Type 0 where
   pub u-lt : u < n
   pub v-lt : v < n
-  pub edge : noEdge (rows n vs rs) (min u v) (max u v) ≡ false
-  pub room : fullBeside (rows n vs rs) (min u v) (max u v) ≡ false
+  pub edge : noEdge (rows n t) (min u v) (max u v) ≡ false
+  pub room : fullBeside (rows n t) (min u v) (max u v) ≡ false
 
 -- a face that may be split so far as these go
-pub record FaceThere (n : ℕ) (vs rs : List ℕ) (u v w : ℕ) : Type 0 where
+pub record FaceThere (n : ℕ) (t : Lent) (u v w : ℕ) : Type 0 where
   pub u-lt : u < n
   pub v-lt : v < n
   pub w-lt : w < n
-  pub face : noFace (rows n vs rs) u v w ≡ false
-  pub room : fullCorner (rows n vs rs) u v w ≡ false
+  pub face : noFace (rows n t) u v w ≡ false
+  pub room : fullCorner (rows n t) u v w ≡ false
 
-module _ (n : ℕ) (vs rs : List ℕ) where
-  pub edge-judged : (u v : ℕ) → edgeVerdict n vs rs u v ≡ Accepted → EdgeThere n vs rs u v
+module _ (n : ℕ) (t : Lent) where
+  pub edge-judged : (u v : ℕ) → edgeVerdict n t u v ≡ Accepted → EdgeThere n t u v
   unfolding edgeVerdict
   edge-judged u v h =
       let d = if-accepted (leb n u || leb n v) _ _ h in
       let k = or-false (leb n u) (leb n v) (d .0) in
-      let e = if-accepted (noEdge (rows n vs rs) (min u v) (max u v)) _ _ (d .1) in
-      let f = if-accepted (fullBeside (rows n vs rs) (min u v) (max u v)) _ _ (e .1) in
+      let e = if-accepted (noEdge (rows n t) (min u v) (max u v)) _ _ (d .1) in
+      let f = if-accepted (fullBeside (rows n t) (min u v) (max u v)) _ _ (e .1) in
       record { u-lt = leb-false n u (k .0); v-lt = leb-false n v (k .1); edge = e .0; room = f .0 }
 
-  pub face-judged : (u v w : ℕ) → faceVerdict n vs rs u v w ≡ Accepted → FaceThere n vs rs u v w
+  pub face-judged : (u v w : ℕ) → faceVerdict n t u v w ≡ Accepted → FaceThere n t u v w
   unfolding faceVerdict
   face-judged u v w h =
       let d = if-accepted (leb n u || (leb n v || leb n w)) _ _ h in
       let k = or-false (leb n u) (leb n v || leb n w) (d .0) in
       let j = or-false (leb n v) (leb n w) (k .1) in
-      let e = if-accepted (noFace (rows n vs rs) u v w) _ _ (d .1) in
-      let f = if-accepted (fullCorner (rows n vs rs) u v w) _ _ (e .1) in
+      let e = if-accepted (noFace (rows n t) u v w) _ _ (d .1) in
+      let f = if-accepted (fullCorner (rows n t) u v w) _ _ (e .1) in
       record { u-lt = leb-false n u (k .0); v-lt = leb-false n v (j .0); w-lt = leb-false n w (j .1); face = e .0; room = f .0 }
 
-  pub turn-judged : (u v : ℕ) → turnVerdict n vs rs u v ≡ Accepted → cannotFlip (rows n vs rs) (min u v) (max u v) ≡ false
+  pub turn-judged : (u v : ℕ) → turnVerdict n t u v ≡ Accepted → cannotFlip (rows n t) (min u v) (max u v) ≡ false
   unfolding turnVerdict
-  turn-judged u v h = if-accepted (cannotFlip (rows n vs rs) (min u v) (max u v)) _ _ h .0
+  turn-judged u v h = if-accepted (cannotFlip (rows n t) (min u v) (max u v)) _ _ h .0
 
-  pub new-judged : (ps : List ℤ) → newVerdict n vs rs ps ≡ Accepted → NewRow n vs rs ps
+  pub new-judged : (ps : List ℤ) → newVerdict n t ps ≡ Accepted → NewRow n t ps
   unfolding newVerdict rows
   new-judged ps h =
-      let d = if-accepted (noNumber (rows n vs rs)) _ _ h in
-      let e = if-accepted (shortTables (suc n) vs rs ps) _ _ (d .1) in
-      let t = long-tables (suc n) vs rs ps (e .0) in
-      record { number = number-there (rows n vs rs) (d .0); room = t .0; points = omega (arith, t .1) }
+      let d = if-accepted (noNumber (rows n t)) _ _ h in
+      let e = if-accepted (shortTables (suc n) t ps) _ _ (d .1) in
+      let z = long-tables (suc n) t ps (e .0) in
+      record { number = number-there (rows n t) (d .0); room = z .0; points = omega (arith, z .1) }
 
 -- ---- the three calls
 
-module _ (n : ℕ) (vs rs : List ℕ) (ps : List ℤ) where
-  pub edge-split-judged : (u v : ℕ) → splitEdgeVerdict n vs rs ps u v ≡ Accepted → Accepts n vs rs ps × EdgeThere n vs rs u v × NewRow n vs rs ps
+module _ (n : ℕ) (t : Lent) (ps : List ℤ) where
+  pub edge-split-judged : (u v : ℕ) → splitEdgeVerdict n t ps u v ≡ Accepted → Accepts n t ps × EdgeThere n t u v × NewRow n t ps
   unfolding splitEdgeVerdict
   edge-split-judged u v h =
-      let c = then-accepted (checkVerdict n vs rs ps) _ h in
-      let d = then-accepted (edgeVerdict n vs rs u v) _ (c .1) in
-      (accepted-only n vs rs ps (c .0), edge-judged n vs rs u v (d .0), new-judged n vs rs ps (d .1))
+      let c = then-accepted (checkVerdict n t ps) _ h in
+      let d = then-accepted (edgeVerdict n t u v) _ (c .1) in
+      (accepted-only n t ps (c .0), edge-judged n t u v (d .0), new-judged n t ps (d .1))
 
-  pub flip-judged : (u v : ℕ) → flipVerdict n vs rs ps u v ≡ Accepted
-      → Accepts n vs rs ps × EdgeThere n vs rs u v × (cannotFlip (rows n vs rs) (min u v) (max u v) ≡ false)
+  pub flip-judged : (u v : ℕ) → flipVerdict n t ps u v ≡ Accepted
+      → Accepts n t ps × EdgeThere n t u v × (cannotFlip (rows n t) (min u v) (max u v) ≡ false)
   unfolding flipVerdict
   flip-judged u v h =
-      let c = then-accepted (checkVerdict n vs rs ps) _ h in
-      let d = then-accepted (edgeVerdict n vs rs u v) _ (c .1) in
-      (accepted-only n vs rs ps (c .0), edge-judged n vs rs u v (d .0), turn-judged n vs rs u v (d .1))
+      let c = then-accepted (checkVerdict n t ps) _ h in
+      let d = then-accepted (edgeVerdict n t u v) _ (c .1) in
+      (accepted-only n t ps (c .0), edge-judged n t u v (d .0), turn-judged n t u v (d .1))
 
-  pub face-split-judged : (u v w : ℕ) → splitFaceVerdict n vs rs ps u v w ≡ Accepted → Accepts n vs rs ps × FaceThere n vs rs u v w × NewRow n vs rs ps
+  pub face-split-judged : (u v w : ℕ) → splitFaceVerdict n t ps u v w ≡ Accepted → Accepts n t ps × FaceThere n t u v w × NewRow n t ps
   unfolding splitFaceVerdict
   face-split-judged u v w h =
-      let c = then-accepted (checkVerdict n vs rs ps) _ h in
-      let d = then-accepted (faceVerdict n vs rs u v w) _ (c .1) in
-      (accepted-only n vs rs ps (c .0), face-judged n vs rs u v w (d .0), new-judged n vs rs ps (d .1))
+      let c = then-accepted (checkVerdict n t ps) _ h in
+      let d = then-accepted (faceVerdict n t u v w) _ (c .1) in
+      (accepted-only n t ps (c .0), face-judged n t u v w (d .0), new-judged n t ps (d .1))

@@ -10,7 +10,7 @@ use lib.Dec.{lit<}
 use lib.IntN.{ℤ}
 use Rattle.mesh.specs.Mesh.{Mesh}
 use Rattle.mesh.proofs.Rings.{All}
-use Rattle.rings.specs.Table.{rows}
+use Rattle.rings.specs.Table.{Lent, lent, rows}
 use Rattle.rings.specs.Verdict.{after, withCounts}
 use Rattle.rings.specs.Check.{checkVerdict, checkAnswer}
 use Rattle.rings.specs.Accepts.{Accepts}
@@ -30,60 +30,60 @@ use Rattle.reshape_tables.proofs.AcceptedTables.{split-rows, split-pass
 use Rattle.reshape_tables.proofs.Judged.{edge-split-judged, face-split-judged, flip-judged}
 
 -- n vertices in these tables are what the edit says
-pub record Passed (e : Reshaping) (n : ℕ) (vs rs : List ℕ) (ps : List ℤ) : Type 0 where
-  pub mesh : rows n vs rs ≡ e .result
-  pub checks : checkVerdict n vs rs ps ≡ Accepted
-  pub answers : checkAnswer n vs rs ps ≡ reshapeAnswer e
+pub record Passed (e : Reshaping) (n : ℕ) (t : Lent) (ps : List ℤ) : Type 0 where
+  pub mesh : rows n t ≡ e .result
+  pub checks : checkVerdict n t ps ≡ Accepted
+  pub answers : checkAnswer n t ps ≡ reshapeAnswer e
 
-passed : (e : Reshaping) (n : ℕ) (vs rs : List ℕ) (ps : List ℤ) → e .verdict ≡ Accepted → e .result .count ≡ n
-    → rows n vs rs ≡ e .result → Accepts n vs rs ps → Passed e n vs rs ps
+passed : (e : Reshaping) (n : ℕ) (t : Lent) (ps : List ℤ) → e .verdict ≡ Accepted → e .result .count ≡ n
+    → rows n t ≡ e .result → Accepts n t ps → Passed e n t ps
 unfolding reshapeAnswer withCounts
-passed e n vs rs ps h c m a = record {
+passed e n t ps h c m a = record {
   mesh = m;
-  checks = accepted-all n vs rs ps a;
-  answers = passes-counts n vs rs ps (e .result) a m ∙ rw (h, c);
+  checks = accepted-all n t ps a;
+  answers = passes-counts n t ps (e .result) a m ∙ rw (h, c);
 }
 
 -- the tables after an accepted edit are those with its rows, and its point
 module _ (e : Reshaping) (h : e .verdict ≡ Accepted) where
-  split-passed : (n : ℕ) (vs rs : List ℕ) (ps : List ℤ) → e .result .count ≡ suc n
-      → rows (suc n) (valencesBy (e .written) vs) (ringsBy (e .written) rs) ≡ e .result
-      → Accepts (suc n) (valencesBy (e .written) vs) (ringsBy (e .written) rs) (meanPut n (e .between) ps)
-      → Passed e (suc n) (reshapedValences e vs) (reshapedRings e rs) (reshapedPositions e n ps)
+  split-passed : (n : ℕ) (t : Lent) (ps : List ℤ) → e .result .count ≡ suc n
+      → rows (suc n) (lent (valencesBy (e .written) (t .valences)) (ringsBy (e .written) (t .rings))) ≡ e .result
+      → Accepts (suc n) (lent (valencesBy (e .written) (t .valences)) (ringsBy (e .written) (t .rings))) (meanPut n (e .between) ps)
+      → Passed e (suc n) (lent (reshapedValences e (t .valences)) (reshapedRings e (t .rings))) (reshapedPositions e n ps)
   unfolding reshapedValences reshapedRings reshapedPositions after
-  split-passed n vs rs ps c m a =
+  split-passed n t ps c m a =
       subst
-      (λ w. Passed e (suc n) (after w (valencesBy (e .written) vs) vs) (after w (ringsBy (e .written) rs) rs) (after w (meanPut n (e .between) ps) ps))
+      (λ w. Passed e (suc n) (lent (after w (valencesBy (e .written) (t .valences)) (t .valences)) (after w (ringsBy (e .written) (t .rings)) (t .rings))) (after w (meanPut n (e .between) ps) ps))
       (sym h)
-      (passed e (suc n) (valencesBy (e .written) vs) (ringsBy (e .written) rs) (meanPut n (e .between) ps) h c m a)
+      (passed e (suc n) (lent (valencesBy (e .written) (t .valences)) (ringsBy (e .written) (t .rings))) (meanPut n (e .between) ps) h c m a)
 
-  flip-passed : (n : ℕ) (vs rs : List ℕ) (ps : List ℤ) → e .result .count ≡ n
-      → rows n (valencesBy (e .written) vs) (ringsBy (e .written) rs) ≡ e .result
-      → Accepts n (valencesBy (e .written) vs) (ringsBy (e .written) rs) ps → Passed e n (reshapedValences e vs) (reshapedRings e rs) ps
+  flip-passed : (n : ℕ) (t : Lent) (ps : List ℤ) → e .result .count ≡ n
+      → rows n (lent (valencesBy (e .written) (t .valences)) (ringsBy (e .written) (t .rings))) ≡ e .result
+      → Accepts n (lent (valencesBy (e .written) (t .valences)) (ringsBy (e .written) (t .rings))) ps → Passed e n (lent (reshapedValences e (t .valences)) (reshapedRings e (t .rings))) ps
   unfolding reshapedValences reshapedRings after
-  flip-passed n vs rs ps c m a =
-      subst (λ w. Passed e n (after w (valencesBy (e .written) vs) vs) (after w (ringsBy (e .written) rs) rs) ps) (sym h)
-      (passed e n (valencesBy (e .written) vs) (ringsBy (e .written) rs) ps h c m a)
+  flip-passed n t ps c m a =
+      subst (λ w. Passed e n (lent (after w (valencesBy (e .written) (t .valences)) (t .valences)) (after w (ringsBy (e .written) (t .rings)) (t .rings))) ps) (sym h)
+      (passed e n (lent (valencesBy (e .written) (t .valences)) (ringsBy (e .written) (t .rings))) ps h c m a)
 
-module _ (n : ℕ) (vs rs : List ℕ) (ps : List ℤ) where
+module _ (n : ℕ) (t : Lent) (ps : List ℤ) where
   -- ---- an edge split
 
-  module _ (u v : ℕ) (h : splitEdgeVerdict n vs rs ps u v ≡ Accepted) where
-    edge-kept : Kept (rows n vs rs) (splitEdge (rows n vs rs) u v) 1
+  module _ (u v : ℕ) (h : splitEdgeVerdict n t ps u v ≡ Accepted) where
+    edge-kept : Kept (rows n t) (splitEdge (rows n t) u v) 1
     unfolding rows
     edge-kept =
-        let j = edge-split-judged n vs rs ps u v h in
-        splitting-an-edge (rows n vs rs) (j .0 .sound) u v (j .1 .u-lt) (j .1 .v-lt) (j .1 .edge) (j .1 .room)
+        let j = edge-split-judged n t ps u v h in
+        splitting-an-edge (rows n t) (j .0 .sound) u v (j .1 .u-lt) (j .1 .v-lt) (j .1 .edge) (j .1 .room)
 
-    pub edge-split-keeps : Kept (rows n vs rs) (edgeSplitting n vs rs ps u v .result) 1
+    pub edge-split-keeps : Kept (rows n t) (edgeSplitting n t ps u v .result) 1
     unfolding edgeSplitting
     edge-split-keeps = edge-kept
 
-    pub edge-split-passes : let e = edgeSplitting n vs rs ps u v in Passed e (suc n) (reshapedValences e vs) (reshapedRings e rs) (reshapedPositions e n ps)
+    pub edge-split-passes : let e = edgeSplitting n t ps u v in Passed e (suc n) (lent (reshapedValences e (t .valences)) (reshapedRings e (t .rings))) (reshapedPositions e n ps)
     unfolding edgeSplitting splitEdge rows edgeRows rewritten
     edge-split-passes =
-        let j = edge-split-judged n vs rs ps u v h in
-        let M : Mesh = rows n vs rs in
+        let j = edge-split-judged n t ps u v h in
+        let M : Mesh = rows n t in
         let p : ℕ = min u v in
         let q : ℕ = max u v in
         let p-lt : p < n = let a = j .1 .u-lt in let b = j .1 .v-lt in omega arith in
@@ -91,61 +91,61 @@ module _ (n : ℕ) (vs rs : List ℕ) (ps : List ℤ) where
         let k : Kite M (j .0 .sound) p q (beyond M p q) (behind M p q) = kite-at M (j .0 .sound) p q p-lt (edge-there M p q (j .1 .edge)) in
         let f : RowsFit (suc n) (edgeRows M p q) = edge-rows-fit M (j .0 .sound) k (edge-kept .sound) in
         let x : Named n (edgeRows M p q) = inr (inr (inr (inr (inl refl)))) in
-        split-passed (edgeSplitting n vs rs ps u v) h n vs rs ps refl
-        (split-rows n vs rs ps (j .0) (edgeRows M p q) (j .2) f x)
-        (split-passes n vs rs ps (j .0) (edgeRows M p q) (j .2) f x (p ∷ q ∷ []) (lit< tt) (p-lt, (q-lt, tt)) (edge-kept .sound))
+        split-passed (edgeSplitting n t ps u v) h n t ps refl
+        (split-rows n t ps (j .0) (edgeRows M p q) (j .2) f x)
+        (split-passes n t ps (j .0) (edgeRows M p q) (j .2) f x (p ∷ q ∷ []) (lit< tt) (p-lt, (q-lt, tt)) (edge-kept .sound))
 
   -- ---- a face split
 
-  module _ (u v w : ℕ) (h : splitFaceVerdict n vs rs ps u v w ≡ Accepted) where
-    face-kept : Kept (rows n vs rs) (splitFace (rows n vs rs) u v w) 1
+  module _ (u v w : ℕ) (h : splitFaceVerdict n t ps u v w ≡ Accepted) where
+    face-kept : Kept (rows n t) (splitFace (rows n t) u v w) 1
     unfolding rows
     face-kept =
-        let j = face-split-judged n vs rs ps u v w h in
-        splitting-a-face (rows n vs rs) (j .0 .sound) u v w (j .1 .v-lt) (j .1 .face) (j .1 .room)
+        let j = face-split-judged n t ps u v w h in
+        splitting-a-face (rows n t) (j .0 .sound) u v w (j .1 .v-lt) (j .1 .face) (j .1 .room)
 
-    pub face-split-keeps : Kept (rows n vs rs) (faceSplitting n vs rs ps u v w .result) 1
+    pub face-split-keeps : Kept (rows n t) (faceSplitting n t ps u v w .result) 1
     unfolding faceSplitting
     face-split-keeps = face-kept
 
-    pub face-split-passes : let e = faceSplitting n vs rs ps u v w in Passed e (suc n) (reshapedValences e vs) (reshapedRings e rs) (reshapedPositions e n ps)
+    pub face-split-passes : let e = faceSplitting n t ps u v w in Passed e (suc n) (lent (reshapedValences e (t .valences)) (reshapedRings e (t .rings))) (reshapedPositions e n ps)
     unfolding faceSplitting splitFace rows faceRows rewritten
     face-split-passes =
-        let j = face-split-judged n vs rs ps u v w h in
-        let M : Mesh = rows n vs rs in
+        let j = face-split-judged n t ps u v w h in
+        let M : Mesh = rows n t in
         let c : Corners = fromSmallest u v w in
         let l : List ℕ = c .one ∷ c .two ∷ c .three ∷ [] in
-        let t = smallest-face M (j .0 .sound) u v w (face-there M (j .0 .sound) u v w (j .1 .v-lt) (j .1 .face)) in
-        let b : All (λ y. y < n) l = (t .u-lt, (t .v-lt, (t .w-lt, tt))) in
-        let f : RowsFit (suc n) (faceRows M c) = face-rows-fit M (j .0 .sound) t (face-kept .sound) in
+        let z = smallest-face M (j .0 .sound) u v w (face-there M (j .0 .sound) u v w (j .1 .v-lt) (j .1 .face)) in
+        let b : All (λ y. y < n) l = (z .u-lt, (z .v-lt, (z .w-lt, tt))) in
+        let f : RowsFit (suc n) (faceRows M c) = face-rows-fit M (j .0 .sound) z (face-kept .sound) in
         let x : Named n (faceRows M c) = inr (inr (inr (inl refl))) in
-        split-passed (faceSplitting n vs rs ps u v w) h n vs rs ps refl
-        (split-rows n vs rs ps (j .0) (faceRows M c) (j .2) f x)
-        (split-passes n vs rs ps (j .0) (faceRows M c) (j .2) f x l (lit< tt) b (face-kept .sound))
+        split-passed (faceSplitting n t ps u v w) h n t ps refl
+        (split-rows n t ps (j .0) (faceRows M c) (j .2) f x)
+        (split-passes n t ps (j .0) (faceRows M c) (j .2) f x l (lit< tt) b (face-kept .sound))
 
   -- ---- an edge flipped
 
-  module _ (u v : ℕ) (h : flipVerdict n vs rs ps u v ≡ Accepted) where
-    flip-kept : Kept (rows n vs rs) (flip (rows n vs rs) u v) 0
+  module _ (u v : ℕ) (h : flipVerdict n t ps u v ≡ Accepted) where
+    flip-kept : Kept (rows n t) (flip (rows n t) u v) 0
     unfolding rows
     flip-kept =
-        let j = flip-judged n vs rs ps u v h in
-        flipping-an-edge (rows n vs rs) (j .0 .sound) u v (j .1 .u-lt) (j .1 .v-lt) (j .1 .edge) (j .1 .room) (j .2)
+        let j = flip-judged n t ps u v h in
+        flipping-an-edge (rows n t) (j .0 .sound) u v (j .1 .u-lt) (j .1 .v-lt) (j .1 .edge) (j .1 .room) (j .2)
 
-    pub flip-keeps : Kept (rows n vs rs) (edgeFlipping n vs rs ps u v .result) 0
+    pub flip-keeps : Kept (rows n t) (edgeFlipping n t ps u v .result) 0
     unfolding edgeFlipping
     flip-keeps = flip-kept
 
-    pub flip-passes-check : let e = edgeFlipping n vs rs ps u v in Passed e n (reshapedValences e vs) (reshapedRings e rs) ps
+    pub flip-passes-check : let e = edgeFlipping n t ps u v in Passed e n (lent (reshapedValences e (t .valences)) (reshapedRings e (t .rings))) ps
     unfolding edgeFlipping flip rows flipRows rewritten
     flip-passes-check =
-        let j = flip-judged n vs rs ps u v h in
-        let M : Mesh = rows n vs rs in
+        let j = flip-judged n t ps u v h in
+        let M : Mesh = rows n t in
         let p : ℕ = min u v in
         let q : ℕ = max u v in
         let p-lt : p < n = let a = j .1 .u-lt in let b = j .1 .v-lt in omega arith in
         let k : Kite M (j .0 .sound) p q (beyond M p q) (behind M p q) = kite-at M (j .0 .sound) p q p-lt (edge-there M p q (j .1 .edge)) in
         let f : RowsFit n (flipRows M p q) = flip-rows-fit M (j .0 .sound) k (flip-kept .sound) in
-        flip-passed (edgeFlipping n vs rs ps u v) h n vs rs ps refl
-        (rows-by n n vs rs (j .0 .room) (j .0 .most) (flipRows M p q) f (λ y g. inl g))
-        (flip-passes n vs rs ps (j .0) (flipRows M p q) f (flip-kept .sound))
+        flip-passed (edgeFlipping n t ps u v) h n t ps refl
+        (rows-by n n t (j .0 .room) (j .0 .most) (flipRows M p q) f (λ y g. inl g))
+        (flip-passes n t ps (j .0) (flipRows M p q) f (flip-kept .sound))

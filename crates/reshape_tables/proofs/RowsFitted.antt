@@ -7,7 +7,7 @@ use lib.Dec.{lit≤}
 use lib.ListN.{length}
 use Rattle.mesh.specs.Limits.{mostValence}
 use Rattle.mesh.specs.Mesh.{Mesh, Sound}
-use Rattle.mesh.proofs.Refined.{Face}
+use Rattle.mesh.proofs.SoundMeshes.{Face}
 use Rattle.reshape.specs.Rows.{rewritten}
 use Rattle.reshape.specs.Reshape.{edgeRowsOf, faceRowsOf, flipRowsOf}
 use Rattle.reshape.proofs.Kites.{Kite}

@@ -1,3 +1,4 @@
+-- To be believed.
 -- The lent tables with some rows written: each row whole, with its unused places, and its valence. Every other place is as it was.
 -- Assumes nothing.
 use mathlib.Core.Bool.{true}
@@ -5,7 +6,7 @@ use mathlib.Core.List.{List, [], _∷_}
 use Prim.Native.Nat.{ℕ, _*_}
 use lib.IntN.{ℤ}
 use Rattle.rings.specs.Table.{put}
-use Rattle.level.specs.Level.{pointBy, coordinates}
+use Rattle.loop_points.specs.Level.{pointBy, coordinates}
 use Rattle.ring_row.specs.Edit.{valencesWith, ringsWith}
 use Rattle.reshape.specs.Rows.{Row}
 use Rattle.reshape.specs.Mean.{meanMask}

@@ -1,3 +1,4 @@
+-- For inside.
 -- next(x in l) and prev(x in l) (document 01, "Ring rules") with the place where each stands, or absence by name.
 -- Assumes nothing.
 use mathlib.Core.Bool.{cond}

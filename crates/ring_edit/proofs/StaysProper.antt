@@ -6,7 +6,7 @@ use mathlib.Core.Bool.{Bool, true, false}
 use mathlib.Core.List.{List}
 use Prim.Native.Nat.{ℕ, _<_}
 use Rattle.mesh.specs.Mesh.{Proper}
-use Rattle.rings.specs.Table.{ringOf, rows}
+use Rattle.rings.specs.Table.{Lent, lent, ringOf, rows}
 use Rattle.rings.specs.Verdict.{after}
 use Rattle.rings.specs.declared.Verdict.the-variants.{Accepted}
 use Rattle.rings.proofs.Rows.{rows-ring}
@@ -19,31 +19,31 @@ use Rattle.ring_edit.proofs.Tables.{tabled-editable}
 use Rattle.ring_edit.proofs.ProperLists.{alone, same-proper}
 use Rattle.ring_edit.proofs.AcceptedEdits.{fair}
 
-module _ (vs rs : List ℕ) (v : ℕ) where
-  effect-ring : (effect : Bool) (ring : List ℕ) → Editable vs rs v → (effect ≡ false → ring ≡ ringOf vs rs v)
-      → ringOf (valencesWith effect vs v ring) (ringsWith effect rs v ring) v ≡ ring
+module _ (t : Lent) (v : ℕ) where
+  effect-ring : (effect : Bool) (ring : List ℕ) → Editable t v → (effect ≡ false → ring ≡ ringOf t v)
+      → ringOf (lent (valencesWith effect (t .valences) v ring) (ringsWith effect (t .rings) v ring)) v ≡ ring
   unfolding valencesWith ringsWith
-  effect-ring true ring ed idle = written-ring vs rs v ed ring
+  effect-ring true ring ed idle = written-ring t v ed ring
   effect-ring false ring ed idle = sym (idle refl)
 
-  edited-ring : (e : Edit) → Editable vs rs v → (e .effect ≡ false → e .ring ≡ ringOf vs rs v) → Accepted ≡ e .verdict
-      → ringOf (valencesAfter e vs v) (ringsAfter e rs v) v ≡ e .ring
+  edited-ring : (e : Edit) → Editable t v → (e .effect ≡ false → e .ring ≡ ringOf t v) → Accepted ≡ e .verdict
+      → ringOf (lent (valencesAfter e (t .valences) v) (ringsAfter e (t .rings) v)) v ≡ e .ring
   unfolding valencesAfter ringsAfter after
   edited-ring e ed idle h = rw (← h) (effect-ring (e .effect) (e .ring) ed idle)
 
-module _ (n : ℕ) (vs rs : List ℕ) (v : ℕ) (k : Call) (accepted : editOf n vs rs v k .verdict ≡ Accepted) where
+module _ (n : ℕ) (t : Lent) (v : ℕ) (k : Call) (accepted : editOf n t v k .verdict ≡ Accepted) where
   -- the ring of v is what the edit says
-  pub ring-after : let e = editOf n vs rs v k in ringOf (valencesAfter e vs v) (ringsAfter e rs v) v ≡ e .ring
+  pub ring-after : let e = editOf n t v k in ringOf (lent (valencesAfter e (t .valences) v) (ringsAfter e (t .rings) v)) v ≡ e .ring
   ring-after =
-      let f = fair n vs rs v k in
-      edited-ring vs rs v (editOf n vs rs v k) (tabled-editable n vs rs v (f .tables (sym accepted))) (f .idle) (sym accepted)
+      let f = fair n t v k in
+      edited-ring t v (editOf n t v k) (tabled-editable n t v (f .tables (sym accepted))) (f .idle) (sym accepted)
 
   -- and it is proper
-  pub stays-proper : let e = editOf n vs rs v k in Proper (rows n (valencesAfter e vs v) (ringsAfter e rs v)) v
+  pub stays-proper : let e = editOf n t v k in Proper (rows n (lent (valencesAfter e (t .valences) v) (ringsAfter e (t .rings) v))) v
   unfolding rows
   stays-proper =
-      let f = fair n vs rs v k in
-      let e : Edit = editOf n vs rs v k in
-      let l : v < n = tabled n vs rs v (f .tables (sym accepted)) .below in
-      same-proper (alone n (e .ring)) (rows n (valencesAfter e vs v) (ringsAfter e rs v)) v refl
-      (sym (rows-ring n (valencesAfter e vs v) (ringsAfter e rs v) v l ∙ ring-after)) (f .proper (sym accepted))
+      let f = fair n t v k in
+      let e : Edit = editOf n t v k in
+      let l : v < n = tabled n t v (f .tables (sym accepted)) .below in
+      same-proper (alone n (e .ring)) (rows n (lent (valencesAfter e (t .valences) v) (ringsAfter e (t .rings) v))) v refl
+      (sym (rows-ring n (lent (valencesAfter e (t .valences) v) (ringsAfter e (t .rings) v)) v l ∙ ring-after)) (f .proper (sym accepted))

@@ -1,10 +1,12 @@
 // The ring edits: each judges its call in document 01's order and then writes one row and one valence, or nothing.
 ghost use mathlib.Core.Path.{_≡_};
 ghost use Prim.Native.Nat.{_≤_};
+ghost use Rattle.rings.specs.Table.{lent};
 ghost use Rattle.ring_edit.specs.Calls.{makeEdit, eraseEdit, replaceEdit, insertAfterEdit, insertBeforeEdit};
 ghost use Rattle.ring_edit.specs.Beside.{besideEdit};
 ghost use Rattle.ring_row.specs.Edit.{valencesAfter, ringsAfter};
 use mesh::Place;
+use mesh::limits::Vertex;
 use ring_judge::judge::judge_call;
 use ring_judge::judge::judge_entry;
 use ring_judge::judge::judge_make;
@@ -18,14 +20,14 @@ use rings::Verdict;
 // Makes v's ring the list.
 pub fn make(
     valences: &mut [u16],
-    rings: &mut [u16],
+    rings: &mut [Vertex],
     count: usize,
     v: usize,
-    list: &[u16],
+    list: &[Vertex],
 ) -> Verdict
-    ensures { λ r. ⌜ r ≡ makeEdit count (now (valences .entry)) (now (rings .entry)) v (now (list .entry)) .verdict ⌝ }
-    ensures { λ _. ⌜ now (rings .exit) ≡ ringsAfter (makeEdit count (now (valences .entry)) (now (rings .entry)) v (now (list .entry))) (now (rings .entry)) v ⌝ }
-    ensures { λ _. ⌜ now (valences .exit) ≡ valencesAfter (makeEdit count (now (valences .entry)) (now (rings .entry)) v (now (list .entry))) (now (valences .entry)) v ⌝ }
+    ensures { λ r. ⌜ r ≡ makeEdit count (lent (now (valences .entry)) (now (rings .entry))) v (now (list .entry)) .verdict ⌝ }
+    ensures { λ _. ⌜ now (rings .exit) ≡ ringsAfter (makeEdit count (lent (now (valences .entry)) (now (rings .entry))) v (now (list .entry))) (now (rings .entry)) v ⌝ }
+    ensures { λ _. ⌜ now (valences .exit) ≡ valencesAfter (makeEdit count (lent (now (valences .entry)) (now (rings .entry))) v (now (list .entry))) (now (valences .entry)) v ⌝ }
 {
     if let Verdict::Refused(r) = judge_make(valences, rings, count, v, list) {
         return Verdict::Refused(r);
@@ -35,10 +37,16 @@ pub fn make(
 }
 
 // Erases x from v's ring; no effect where x is absent.
-pub fn erase(valences: &mut [u16], rings: &mut [u16], count: usize, v: usize, x: usize) -> Verdict
-    ensures { λ r. ⌜ r ≡ eraseEdit count (now (valences .entry)) (now (rings .entry)) v x .verdict ⌝ }
-    ensures { λ _. ⌜ now (rings .exit) ≡ ringsAfter (eraseEdit count (now (valences .entry)) (now (rings .entry)) v x) (now (rings .entry)) v ⌝ }
-    ensures { λ _. ⌜ now (valences .exit) ≡ valencesAfter (eraseEdit count (now (valences .entry)) (now (rings .entry)) v x) (now (valences .entry)) v ⌝ }
+pub fn erase(
+    valences: &mut [u16],
+    rings: &mut [Vertex],
+    count: usize,
+    v: usize,
+    x: usize,
+) -> Verdict
+    ensures { λ r. ⌜ r ≡ eraseEdit count (lent (now (valences .entry)) (now (rings .entry))) v x .verdict ⌝ }
+    ensures { λ _. ⌜ now (rings .exit) ≡ ringsAfter (eraseEdit count (lent (now (valences .entry)) (now (rings .entry))) v x) (now (rings .entry)) v ⌝ }
+    ensures { λ _. ⌜ now (valences .exit) ≡ valencesAfter (eraseEdit count (lent (now (valences .entry)) (now (rings .entry))) v x) (now (valences .entry)) v ⌝ }
 {
     if let Verdict::Refused(r) = judge_call(valences, rings, count, v) {
         return Verdict::Refused(r);
@@ -53,15 +61,15 @@ pub fn erase(valences: &mut [u16], rings: &mut [u16], count: usize, v: usize, x:
 // Puts x in the place of a in v's ring; no effect where a is absent.
 pub fn replace(
     valences: &mut [u16],
-    rings: &mut [u16],
+    rings: &mut [Vertex],
     count: usize,
     v: usize,
     a: usize,
     x: usize,
 ) -> Verdict
-    ensures { λ r. ⌜ r ≡ replaceEdit count (now (valences .entry)) (now (rings .entry)) v a x .verdict ⌝ }
-    ensures { λ _. ⌜ now (rings .exit) ≡ ringsAfter (replaceEdit count (now (valences .entry)) (now (rings .entry)) v a x) (now (rings .entry)) v ⌝ }
-    ensures { λ _. ⌜ now (valences .exit) ≡ valencesAfter (replaceEdit count (now (valences .entry)) (now (rings .entry)) v a x) (now (valences .entry)) v ⌝ }
+    ensures { λ r. ⌜ r ≡ replaceEdit count (lent (now (valences .entry)) (now (rings .entry))) v a x .verdict ⌝ }
+    ensures { λ _. ⌜ now (rings .exit) ≡ ringsAfter (replaceEdit count (lent (now (valences .entry)) (now (rings .entry))) v a x) (now (rings .entry)) v ⌝ }
+    ensures { λ _. ⌜ now (valences .exit) ≡ valencesAfter (replaceEdit count (lent (now (valences .entry)) (now (rings .entry))) v a x) (now (valences .entry)) v ⌝ }
 {
     if let Verdict::Refused(r) = judge_entry(valences, rings, count, v, x) {
         return Verdict::Refused(r);
@@ -76,7 +84,7 @@ pub fn replace(
 // Inserts x so many places behind a's own in v's ring; no effect where a is absent.
 fn insert_beside(
     valences: &mut [u16],
-    rings: &mut [u16],
+    rings: &mut [Vertex],
     count: usize,
     v: usize,
     a: usize,
@@ -84,9 +92,9 @@ fn insert_beside(
     behind: usize,
 ) -> Verdict
     requires { ⌜ behind ≤ 1 ⌝ }
-    ensures { λ r. ⌜ r ≡ besideEdit count (now (valences .entry)) (now (rings .entry)) v a x behind .verdict ⌝ }
-    ensures { λ _. ⌜ now (rings .exit) ≡ ringsAfter (besideEdit count (now (valences .entry)) (now (rings .entry)) v a x behind) (now (rings .entry)) v ⌝ }
-    ensures { λ _. ⌜ now (valences .exit) ≡ valencesAfter (besideEdit count (now (valences .entry)) (now (rings .entry)) v a x behind) (now (valences .entry)) v ⌝ }
+    ensures { λ r. ⌜ r ≡ besideEdit count (lent (now (valences .entry)) (now (rings .entry))) v a x behind .verdict ⌝ }
+    ensures { λ _. ⌜ now (rings .exit) ≡ ringsAfter (besideEdit count (lent (now (valences .entry)) (now (rings .entry))) v a x behind) (now (rings .entry)) v ⌝ }
+    ensures { λ _. ⌜ now (valences .exit) ≡ valencesAfter (besideEdit count (lent (now (valences .entry)) (now (rings .entry))) v a x behind) (now (valences .entry)) v ⌝ }
 {
     if let Verdict::Refused(r) = judge_entry(valences, rings, count, v, x) {
         return Verdict::Refused(r);
@@ -100,15 +108,15 @@ fn insert_beside(
 // Inserts x after a in v's ring; no effect where a is absent.
 pub fn insert_after(
     valences: &mut [u16],
-    rings: &mut [u16],
+    rings: &mut [Vertex],
     count: usize,
     v: usize,
     a: usize,
     x: usize,
 ) -> Verdict
-    ensures { λ r. ⌜ r ≡ insertAfterEdit count (now (valences .entry)) (now (rings .entry)) v a x .verdict ⌝ }
-    ensures { λ _. ⌜ now (rings .exit) ≡ ringsAfter (insertAfterEdit count (now (valences .entry)) (now (rings .entry)) v a x) (now (rings .entry)) v ⌝ }
-    ensures { λ _. ⌜ now (valences .exit) ≡ valencesAfter (insertAfterEdit count (now (valences .entry)) (now (rings .entry)) v a x) (now (valences .entry)) v ⌝ }
+    ensures { λ r. ⌜ r ≡ insertAfterEdit count (lent (now (valences .entry)) (now (rings .entry))) v a x .verdict ⌝ }
+    ensures { λ _. ⌜ now (rings .exit) ≡ ringsAfter (insertAfterEdit count (lent (now (valences .entry)) (now (rings .entry))) v a x) (now (rings .entry)) v ⌝ }
+    ensures { λ _. ⌜ now (valences .exit) ≡ valencesAfter (insertAfterEdit count (lent (now (valences .entry)) (now (rings .entry))) v a x) (now (valences .entry)) v ⌝ }
 {
     insert_beside(valences, rings, count, v, a, x, 1)
 }
@@ -116,15 +124,15 @@ pub fn insert_after(
 // Inserts x before a in v's ring; no effect where a is absent.
 pub fn insert_before(
     valences: &mut [u16],
-    rings: &mut [u16],
+    rings: &mut [Vertex],
     count: usize,
     v: usize,
     a: usize,
     x: usize,
 ) -> Verdict
-    ensures { λ r. ⌜ r ≡ insertBeforeEdit count (now (valences .entry)) (now (rings .entry)) v a x .verdict ⌝ }
-    ensures { λ _. ⌜ now (rings .exit) ≡ ringsAfter (insertBeforeEdit count (now (valences .entry)) (now (rings .entry)) v a x) (now (rings .entry)) v ⌝ }
-    ensures { λ _. ⌜ now (valences .exit) ≡ valencesAfter (insertBeforeEdit count (now (valences .entry)) (now (rings .entry)) v a x) (now (valences .entry)) v ⌝ }
+    ensures { λ r. ⌜ r ≡ insertBeforeEdit count (lent (now (valences .entry)) (now (rings .entry))) v a x .verdict ⌝ }
+    ensures { λ _. ⌜ now (rings .exit) ≡ ringsAfter (insertBeforeEdit count (lent (now (valences .entry)) (now (rings .entry))) v a x) (now (rings .entry)) v ⌝ }
+    ensures { λ _. ⌜ now (valences .exit) ≡ valencesAfter (insertBeforeEdit count (lent (now (valences .entry)) (now (rings .entry))) v a x) (now (valences .entry)) v ⌝ }
 {
     insert_beside(valences, rings, count, v, a, x, 0)
 }

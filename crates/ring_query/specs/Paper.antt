@@ -1,3 +1,4 @@
+-- To be believed.
 -- What a query's answer is in document 01's terms: number, place and value. A refused query has the value of one that found nothing.
 -- Assumes nothing.
 use Rattle.mesh.specs.Limits.{nullVertex}

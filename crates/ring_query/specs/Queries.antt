@@ -1,11 +1,10 @@
+-- To be believed.
 -- The queries of one vertex's ring (document 01, "Ring rules"): they judge as an erase does, and they write nothing.
 -- Assumes nothing.
 use mathlib.Core.Bool.{Bool, cond}
-use mathlib.Core.List.{List}
 use Prim.Native.Nat.{ℕ}
-use lib.ListN.{getD}
 use Rattle.mesh.specs.Ring.{has, next, prev}
-use Rattle.rings.specs.Table.{ringOf}
+use Rattle.rings.specs.Table.{Lent, valenceAt, ringOf}
 use Rattle.rings.specs.Verdict.{withAmount}
 use Rattle.ring_judge.specs.Judging.{callVerdict}
 use Rattle.rings.specs.declared.Verdict.{Verdict}
@@ -28,19 +27,19 @@ unfoldable pub withNeighbour : Verdict → Bool → ℕ → Neighbour
 withNeighbour Accepted b x = cond b (Vertex x) Missing
 withNeighbour (Refused r) b x = neighbour.Refused r
 
-module _ (n : ℕ) (vs rs : List ℕ) (v : ℕ) where
+module _ (n : ℕ) (t : Lent) (v : ℕ) where
   -- the valence of v
   unfoldable pub valenceAnswer : Amount
-  valenceAnswer = withAmount (callVerdict n vs rs v) (getD vs v 0)
+  valenceAnswer = withAmount (callVerdict n t v) (valenceAt t v)
 
   -- is x in v's ring
   unfoldable pub containsAnswer : ℕ → Answer
-  containsAnswer x = withAnswer (callVerdict n vs rs v) (has x (ringOf vs rs v))
+  containsAnswer x = withAnswer (callVerdict n t v) (has x (ringOf t v))
 
   -- the vertex after x in v's ring
   unfoldable pub nextAnswer : ℕ → Neighbour
-  nextAnswer x = withNeighbour (callVerdict n vs rs v) (has x (ringOf vs rs v)) (next (ringOf vs rs v) x)
+  nextAnswer x = withNeighbour (callVerdict n t v) (has x (ringOf t v)) (next (ringOf t v) x)
 
   -- the vertex before x in v's ring
   unfoldable pub prevAnswer : ℕ → Neighbour
-  prevAnswer x = withNeighbour (callVerdict n vs rs v) (has x (ringOf vs rs v)) (prev (ringOf vs rs v) x)
+  prevAnswer x = withNeighbour (callVerdict n t v) (has x (ringOf t v)) (prev (ringOf t v) x)

@@ -1,6 +1,7 @@
 // The queries of one vertex's ring in the lent tables.
 pub mod queries;
 
+use mesh::limits::Vertex;
 use rings::Refusal;
 
 // Is x there?
@@ -12,7 +13,7 @@ pub enum Answer {
 
 // Which vertex is next to x?
 pub enum Neighbour {
-    Vertex(u16),
+    Vertex(Vertex),
     Missing,
     Refused(Refusal),
 }

@@ -1,8 +1,10 @@
 // The queries: is x there, the valence, the vertex after x and the one before it.
 ghost use mathlib.Core.Path.{_≡_};
+ghost use Rattle.rings.specs.Table.{lent};
 ghost use Rattle.ring_query.specs.Queries.{valenceAnswer, containsAnswer, nextAnswer, prevAnswer};
 use super::Answer;
 use super::Neighbour;
+use mesh::limits::Vertex;
 use ring_beside::Beside;
 use ring_beside::after_in;
 use ring_beside::before_in;
@@ -13,8 +15,8 @@ use rings::ring::is_there;
 use rings::table::ring_of;
 
 // The valence of v.
-pub fn valence(valences: &[u16], rings: &[u16], count: usize, v: usize) -> Amount
-    ensures { λ r. ⌜ r ≡ valenceAnswer count (now (valences .entry)) (now (rings .entry)) v ⌝ }
+pub fn valence(valences: &[u16], rings: &[Vertex], count: usize, v: usize) -> Amount
+    ensures { λ r. ⌜ r ≡ valenceAnswer count (lent (now (valences .entry)) (now (rings .entry))) v ⌝ }
 {
     match judge_call(valences, rings, count, v) {
         Verdict::Refused(r) => Amount::Refused(r),
@@ -23,8 +25,8 @@ pub fn valence(valences: &[u16], rings: &[u16], count: usize, v: usize) -> Amoun
 }
 
 // Is x in v's ring?
-pub fn contains(valences: &[u16], rings: &[u16], count: usize, v: usize, x: usize) -> Answer
-    ensures { λ r. ⌜ r ≡ containsAnswer count (now (valences .entry)) (now (rings .entry)) v x ⌝ }
+pub fn contains(valences: &[u16], rings: &[Vertex], count: usize, v: usize, x: usize) -> Answer
+    ensures { λ r. ⌜ r ≡ containsAnswer count (lent (now (valences .entry)) (now (rings .entry))) v x ⌝ }
 {
     match judge_call(valences, rings, count, v) {
         Verdict::Refused(r) => Answer::Refused(r),
@@ -38,8 +40,8 @@ pub fn contains(valences: &[u16], rings: &[u16], count: usize, v: usize, x: usiz
 }
 
 // The vertex after x in v's ring.
-pub fn next(valences: &[u16], rings: &[u16], count: usize, v: usize, x: usize) -> Neighbour
-    ensures { λ r. ⌜ r ≡ nextAnswer count (now (valences .entry)) (now (rings .entry)) v x ⌝ }
+pub fn next(valences: &[u16], rings: &[Vertex], count: usize, v: usize, x: usize) -> Neighbour
+    ensures { λ r. ⌜ r ≡ nextAnswer count (lent (now (valences .entry)) (now (rings .entry))) v x ⌝ }
 {
     match judge_call(valences, rings, count, v) {
         Verdict::Refused(r) => Neighbour::Refused(r),
@@ -53,8 +55,8 @@ pub fn next(valences: &[u16], rings: &[u16], count: usize, v: usize, x: usize) -
 }
 
 // The vertex before x in v's ring.
-pub fn prev(valences: &[u16], rings: &[u16], count: usize, v: usize, x: usize) -> Neighbour
-    ensures { λ r. ⌜ r ≡ prevAnswer count (now (valences .entry)) (now (rings .entry)) v x ⌝ }
+pub fn prev(valences: &[u16], rings: &[Vertex], count: usize, v: usize, x: usize) -> Neighbour
+    ensures { λ r. ⌜ r ≡ prevAnswer count (lent (now (valences .entry)) (now (rings .entry))) v x ⌝ }
 {
     match judge_call(valences, rings, count, v) {
         Verdict::Refused(r) => Neighbour::Refused(r),

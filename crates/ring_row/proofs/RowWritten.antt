@@ -7,6 +7,7 @@ use native.Mathlib.Numerals.{add-one}
 use native.Mathlib.Omega.{arith}
 use lib.ListN.{length, getD, take, drop, replicate, length-replicate, drop-of-length-le}
 use lib.Seq.{getD-take, ext-getD, length-take-le}
+use Rattle.mesh.specs.Limits.{nullVertex}
 use Rattle.mesh.specs.Edits.{closed, opened}
 use Rattle.rings.specs.Table.{put, padded}
 use Rattle.rings.proofs.Rewrite.{Written}
@@ -38,17 +39,17 @@ module _ (row : List ℕ) (n : ℕ) (long : length row ≡ 32) (most : n ≤ 32)
   length-front = length-take-le n row (omega arith)
 
   -- the null vertex in its other places
-  pub front-padded : put row (0 * 32 + n) (replicate (32 - n) 65535) ≡ padded (take n row)
+  pub front-padded : put row (0 * 32 + n) (replicate (32 - n) nullVertex) ≡ padded (take n row)
   unfolding put padded
   front-padded =
-      let others : List ℕ = replicate (32 - n) 65535 in
+      let others : List ℕ = replicate (32 - n) nullVertex in
       let z : 0 * 32 + n ≡ n = omega arith in
-      let w : length others ≡ 32 - n = length-replicate (32 - n) 65535 in
+      let w : length others ≡ 32 - n = length-replicate (32 - n) nullVertex in
       let e : drop (n + length others) row ≡ [] = drop-of-length-le row {i = n + length others} (omega arith) in
       ap (λ (k : ℕ). take k row ++ (others ++ drop (k + length others) row)) z
       ∙ ap (λ (x : List ℕ). take n row ++ (others ++ x)) e
       ∙ ap (λ (x : List ℕ). take n row ++ x) (append-nil others)
-      ∙ ap (λ (k : ℕ). take n row ++ replicate (32 - k) 65535) (sym length-front)
+      ∙ ap (λ (k : ℕ). take n row ++ replicate (32 - k) nullVertex) (sym length-front)
 
 -- a row whose front was rewritten to a ring, place by place, and whose other places were padded then
 pub front-written : {ring old row : List ℕ} {k : ℕ} → Written ring old k row → (n : ℕ) → length ring ≡ n → n ≤ k → n ≤ length old → (padding : List ℕ) → padding ≡ padded (take n row) → padding ≡ padded ring

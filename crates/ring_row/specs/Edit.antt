@@ -1,3 +1,4 @@
+-- To be believed.
 -- What an edit is, and the two tables after it (document 01, "Ring rules"): v's row is written whole, with its unused places, and v's valence; or nothing is written.
 -- Assumes nothing.
 use mathlib.Core.Bool.{Bool, cond}

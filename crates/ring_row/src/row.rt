@@ -5,10 +5,11 @@ ghost use lib.ListN.{length, take, set};
 ghost use Rattle.mesh.specs.Edits.{closed, opened};
 ghost use Rattle.mesh.specs.Limits.{mostValence};
 ghost use Rattle.rings.specs.Table.{padded};
+use mesh::limits::Vertex;
 use rings::table::write_unused;
 
 // Keeps the first n places and writes the null vertex into the others.
-pub fn pad(row: &mut [u16], n: usize)
+pub fn pad(row: &mut [Vertex], n: usize)
     requires { ⌜ length (now row) ≡ mostValence ⌝ }
     requires { ⌜ n ≤ mostValence ⌝ }
     ensures { λ _. ⌜ now (row .exit) ≡ padded (take n (now (row .entry))) ⌝ }
@@ -17,7 +18,7 @@ pub fn pad(row: &mut [u16], n: usize)
 }
 
 // Takes place i out of the ring of n: later places close up.
-pub fn close_up(row: &mut [u16], n: usize, i: usize)
+pub fn close_up(row: &mut [Vertex], n: usize, i: usize)
     requires { ⌜ length (now row) ≡ mostValence ⌝ }
     requires { ⌜ i < n ⌝ }
     requires { ⌜ n ≤ mostValence ⌝ }
@@ -32,7 +33,7 @@ pub fn close_up(row: &mut [u16], n: usize, i: usize)
 }
 
 // Puts x in at place i of the ring of n: later places shift by one.
-pub fn open_up(row: &mut [u16], n: usize, i: usize, x: u16)
+pub fn open_up(row: &mut [Vertex], n: usize, i: usize, x: Vertex)
     requires { ⌜ length (now row) ≡ mostValence ⌝ }
     requires { ⌜ i ≤ n ⌝ }
     requires { ⌜ n < mostValence ⌝ }
@@ -51,7 +52,7 @@ pub fn open_up(row: &mut [u16], n: usize, i: usize, x: u16)
 }
 
 // Puts x in the stead of what stands at place i of the ring of n.
-pub fn put_at(row: &mut [u16], n: usize, i: usize, x: u16)
+pub fn put_at(row: &mut [Vertex], n: usize, i: usize, x: Vertex)
     requires { ⌜ length (now row) ≡ mostValence ⌝ }
     requires { ⌜ i < n ⌝ }
     requires { ⌜ n ≤ mostValence ⌝ }
@@ -62,7 +63,7 @@ pub fn put_at(row: &mut [u16], n: usize, i: usize, x: u16)
 }
 
 // Writes a list as the ring.
-pub fn write(row: &mut [u16], list: &[u16])
+pub fn write(row: &mut [Vertex], list: &[Vertex])
     requires { ⌜ length (now row) ≡ mostValence ⌝ }
     requires { ⌜ length (now list) ≤ mostValence ⌝ }
     ensures { λ _. ⌜ now (row .exit) ≡ padded (now (list .entry)) ⌝ }

@@ -7,6 +7,7 @@ use native.Mathlib.Numerals.{add-one}
 use native.Mathlib.Omega.{arith}
 use lib.ListN.{length, getD, take, set, replicate, length-replicate, replicate-append-replicate, List·getD-append}
 use lib.Seq.{set-split, take-suc, length-take-le, ext-getD}
+use Rattle.mesh.specs.Limits.{nullVertex}
 use Rattle.mesh.proofs.Lists.{lt-split}
 use Rattle.rings.specs.Table.{put, gather, padded}
 use Rattle.rings.proofs.Tables.{put-nothing, length-put, put-before, put-within, put-behind, put-more, gather-more}
@@ -68,9 +69,9 @@ unused-more t a used k x {now} q h l =
 
 -- a ring with its unused places is a padded row
 pub row-padded : (t : List ℕ) (a : ℕ) (ring : List ℕ) → a + 32 ≤ length t → length ring ≤ 32
-    → put (put t a ring) (a + length ring) (replicate (32 - length ring) 65535) ≡ put t a (padded ring)
+    → put (put t a ring) (a + length ring) (replicate (32 - length ring) nullVertex) ≡ put t a (padded ring)
 unfolding padded
-row-padded t a ring h l = put-more t a ring (omega arith) (replicate (32 - length ring) 65535) (simp length-replicate (omega arith))
+row-padded t a ring h l = put-more t a ring (omega arith) (replicate (32 - length ring) nullVertex) (simp length-replicate (omega arith))
 
 -- the used places of a padded ring are the ring's
 pub padded-at : (l : List ℕ) (i : ℕ) → i < length l → getD (padded l) i 0 ≡ getD l i 0

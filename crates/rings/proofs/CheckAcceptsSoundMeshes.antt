@@ -12,13 +12,13 @@ use Rattle.mesh.specs.Search.{first, some}
 use Rattle.mesh.specs.Tests.{oneSided, openFaced}
 use Rattle.mesh.proofs.First.{Clear, some-all}
 use Rattle.mesh.proofs.TestsPassWhenSound.{lowest}
-use Rattle.rings.specs.Table.{rows}
+use Rattle.rings.specs.Table.{Lent, rows}
 use Rattle.rings.specs.Refusal.{numberOf}
 use Rattle.rings.specs.Verdict.{refuseIf, refuseAt}
 use Rattle.rings.specs.Check.{badCount, shortTables, unfitRow, beyondAt, checkVerdict}
 use Rattle.rings.specs.Accepts.{Accepts}
 use Rattle.rings.specs.declared.Refusal.{Refusal}
-use Rattle.rings.specs.declared.Refusal.the-variants.{BadCount, ControlTooShort, ImproperRing, OneSided, OpenFace, TooFar}
+use Rattle.rings.specs.declared.Refusal.the-variants.{VertexCount, TableTooShort, RingImproper, NotMutual, NotTriangle, ControlCoordinate}
 use Rattle.rings.specs.declared.Verdict.{Verdict}
 use Rattle.rings.specs.declared.Verdict.the-variants.{Accepted, Refused}
 use Rattle.rings.proofs.Accepted.{accepted-only, accepted-all}
@@ -64,58 +64,58 @@ stops-at test n reason rest v same never h = go (some test n) refl h
 never-accepted : (r : Refusal) → Accepted ≡ Refused r → ⊥
 never-accepted r h = let z : _≡_ {A = ℕ} 0 1 = cc in omega arith
 
-module _ (n : ℕ) (vs rs : List ℕ) (ps : List ℤ) where
+module _ (n : ℕ) (t : Lent) (ps : List ℤ) where
   -- what the check accepts
-  pub check-accepts-sound-meshes : (checkVerdict n vs rs ps ≡ Accepted) ↔ Accepts n vs rs ps
-  check-accepts-sound-meshes = (accepted-only n vs rs ps, accepted-all n vs rs ps)
+  pub check-accepts-sound-meshes : (checkVerdict n t ps ≡ Accepted) ↔ Accepts n t ps
+  check-accepts-sound-meshes = (accepted-only n t ps, accepted-all n t ps)
 
   module _ (v : ℕ) where
     -- 4: the lowest vertex whose ring is improper or has a valence under 3
-    pub improper-ring-is-lowest : checkVerdict n vs rs ps ≡ Refused (ImproperRing v) → Lowest (unfitRow n vs rs) n v
+    pub improper-ring-is-lowest : checkVerdict n t ps ≡ Refused (RingImproper v) → Lowest (unfitRow n t) n v
     unfolding checkVerdict
     improper-ring-is-lowest h =
-        let a = past-if (badCount n) BadCount _ (ImproperRing v) (λ e. omega arith) h in
-        let b = past-if (shortTables n vs rs ps) ControlTooShort _ (ImproperRing v) (λ e. omega arith) (a .1) in
-        stops-at (unfitRow n vs rs) n ImproperRing _ v (λ u e. cc) (λ e.
-        let c = past-at (oneSided (rows n vs rs)) n OneSided _ (ImproperRing v) (λ u q. omega arith) e in
-        let d = past-at (openFaced (rows n vs rs)) n OpenFace _ (ImproperRing v) (λ u q. omega arith) (c .1) in
-        never-accepted (ImproperRing v) (past-at (beyondAt ps) n TooFar Accepted (ImproperRing v) (λ u q. omega arith) (d .1) .1)) (b .1)
+        let a = past-if (badCount n) VertexCount _ (RingImproper v) (λ e. omega arith) h in
+        let b = past-if (shortTables n t ps) TableTooShort _ (RingImproper v) (λ e. omega arith) (a .1) in
+        stops-at (unfitRow n t) n RingImproper _ v (λ u e. cc) (λ e.
+        let c = past-at (oneSided (rows n t)) n NotMutual _ (RingImproper v) (λ u q. omega arith) e in
+        let d = past-at (openFaced (rows n t)) n NotTriangle _ (RingImproper v) (λ u q. omega arith) (c .1) in
+        never-accepted (RingImproper v) (past-at (beyondAt ps) n ControlCoordinate Accepted (RingImproper v) (λ u q. omega arith) (d .1) .1)) (b .1)
 
     -- 5: every ring is fit, and v is the lowest vertex that some neighbour lacks
-    pub one-sided-is-lowest : checkVerdict n vs rs ps ≡ Refused (OneSided v) → Clear (unfitRow n vs rs) n × Lowest (oneSided (rows n vs rs)) n v
+    pub one-sided-is-lowest : checkVerdict n t ps ≡ Refused (NotMutual v) → Clear (unfitRow n t) n × Lowest (oneSided (rows n t)) n v
     unfolding checkVerdict
     one-sided-is-lowest h =
-        let a = past-if (badCount n) BadCount _ (OneSided v) (λ e. omega arith) h in
-        let b = past-if (shortTables n vs rs ps) ControlTooShort _ (OneSided v) (λ e. omega arith) (a .1) in
-        let c = past-at (unfitRow n vs rs) n ImproperRing _ (OneSided v) (λ u q. omega arith) (b .1) in (
+        let a = past-if (badCount n) VertexCount _ (NotMutual v) (λ e. omega arith) h in
+        let b = past-if (shortTables n t ps) TableTooShort _ (NotMutual v) (λ e. omega arith) (a .1) in
+        let c = past-at (unfitRow n t) n RingImproper _ (NotMutual v) (λ u q. omega arith) (b .1) in (
           c .0,
-          stops-at (oneSided (rows n vs rs)) n OneSided _ v (λ u e. cc) (λ e.
-              let d = past-at (openFaced (rows n vs rs)) n OpenFace _ (OneSided v) (λ u q. omega arith) e in
-              never-accepted (OneSided v) (past-at (beyondAt ps) n TooFar Accepted (OneSided v) (λ u q. omega arith) (d .1) .1)) (c .1),
+          stops-at (oneSided (rows n t)) n NotMutual _ v (λ u e. cc) (λ e.
+              let d = past-at (openFaced (rows n t)) n NotTriangle _ (NotMutual v) (λ u q. omega arith) e in
+              never-accepted (NotMutual v) (past-at (beyondAt ps) n ControlCoordinate Accepted (NotMutual v) (λ u q. omega arith) (d .1) .1)) (c .1),
         )
 
     -- 6: besides, no vertex is lacked, and v is the lowest with a face that is no triangle
-    pub open-face-is-lowest : checkVerdict n vs rs ps ≡ Refused (OpenFace v) → Clear (unfitRow n vs rs) n × Clear (oneSided (rows n vs rs)) n × Lowest (openFaced (rows n vs rs)) n v
+    pub open-face-is-lowest : checkVerdict n t ps ≡ Refused (NotTriangle v) → Clear (unfitRow n t) n × Clear (oneSided (rows n t)) n × Lowest (openFaced (rows n t)) n v
     unfolding checkVerdict
     open-face-is-lowest h =
-        let a = past-if (badCount n) BadCount _ (OpenFace v) (λ e. omega arith) h in
-        let b = past-if (shortTables n vs rs ps) ControlTooShort _ (OpenFace v) (λ e. omega arith) (a .1) in
-        let c = past-at (unfitRow n vs rs) n ImproperRing _ (OpenFace v) (λ u q. omega arith) (b .1) in
-        let d = past-at (oneSided (rows n vs rs)) n OneSided _ (OpenFace v) (λ u q. omega arith) (c .1) in (
+        let a = past-if (badCount n) VertexCount _ (NotTriangle v) (λ e. omega arith) h in
+        let b = past-if (shortTables n t ps) TableTooShort _ (NotTriangle v) (λ e. omega arith) (a .1) in
+        let c = past-at (unfitRow n t) n RingImproper _ (NotTriangle v) (λ u q. omega arith) (b .1) in
+        let d = past-at (oneSided (rows n t)) n NotMutual _ (NotTriangle v) (λ u q. omega arith) (c .1) in (
           c .0,
           d .0,
-          stops-at (openFaced (rows n vs rs)) n OpenFace _ v (λ u e. cc) (λ e.
-              never-accepted (OpenFace v) (past-at (beyondAt ps) n TooFar Accepted (OpenFace v) (λ u q. omega arith) e .1)) (d .1),
+          stops-at (openFaced (rows n t)) n NotTriangle _ v (λ u e. cc) (λ e.
+              never-accepted (NotTriangle v) (past-at (beyondAt ps) n ControlCoordinate Accepted (NotTriangle v) (λ u q. omega arith) e .1)) (d .1),
         )
 
     -- 7: the mesh is sound so far, and v is the lowest vertex with a coordinate beyond the range
-    pub too-far-is-lowest : checkVerdict n vs rs ps ≡ Refused (TooFar v)
-        → Clear (unfitRow n vs rs) n × Clear (oneSided (rows n vs rs)) n × Clear (openFaced (rows n vs rs)) n × Lowest (beyondAt ps) n v
+    pub too-far-is-lowest : checkVerdict n t ps ≡ Refused (ControlCoordinate v)
+        → Clear (unfitRow n t) n × Clear (oneSided (rows n t)) n × Clear (openFaced (rows n t)) n × Lowest (beyondAt ps) n v
     unfolding checkVerdict
     too-far-is-lowest h =
-        let a = past-if (badCount n) BadCount _ (TooFar v) (λ e. omega arith) h in
-        let b = past-if (shortTables n vs rs ps) ControlTooShort _ (TooFar v) (λ e. omega arith) (a .1) in
-        let c = past-at (unfitRow n vs rs) n ImproperRing _ (TooFar v) (λ u q. omega arith) (b .1) in
-        let d = past-at (oneSided (rows n vs rs)) n OneSided _ (TooFar v) (λ u q. omega arith) (c .1) in
-        let e = past-at (openFaced (rows n vs rs)) n OpenFace _ (TooFar v) (λ u q. omega arith) (d .1) in
-        (c .0, d .0, e .0, stops-at (beyondAt ps) n TooFar Accepted v (λ u q. cc) (never-accepted (TooFar v)) (e .1))
+        let a = past-if (badCount n) VertexCount _ (ControlCoordinate v) (λ e. omega arith) h in
+        let b = past-if (shortTables n t ps) TableTooShort _ (ControlCoordinate v) (λ e. omega arith) (a .1) in
+        let c = past-at (unfitRow n t) n RingImproper _ (ControlCoordinate v) (λ u q. omega arith) (b .1) in
+        let d = past-at (oneSided (rows n t)) n NotMutual _ (ControlCoordinate v) (λ u q. omega arith) (c .1) in
+        let e = past-at (openFaced (rows n t)) n NotTriangle _ (ControlCoordinate v) (λ u q. omega arith) (d .1) in
+        (c .0, d .0, e .0, stops-at (beyondAt ps) n ControlCoordinate Accepted v (λ u q. cc) (never-accepted (ControlCoordinate v)) (e .1))

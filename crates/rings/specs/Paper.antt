@@ -1,3 +1,4 @@
+-- To be believed.
 -- What the answers of edits, of counting calls and of calls with one number say on paper: number, place and values. Where a call is refused its values are 0.
 -- Assumes nothing.
 use Rattle.rings.specs.Refusal.{Paper, accepted, reason}

@@ -1,11 +1,12 @@
+-- To be believed.
 -- What every call answers on paper: a number, a place and values, as section "What comes back when we say no" has them.
 -- Assumes nothing.
 use Prim.Native.Nat.{ℕ}
 use Rattle.rings.specs.declared.Refusal.{Refusal}
-use Rattle.rings.specs.declared.Refusal.the-variants.{ControlTooShort, BadCount, NoVertex, ImproperRing, OneSided}
-use Rattle.rings.specs.declared.Refusal.the-variants.{OpenFace, TooFar, BadLevels, LevelTooLarge, NoRoom}
-use Rattle.rings.specs.declared.Refusal.the-variants.{NotAsRefined, TooManyMoves, NotFinite, Outside, AlreadyThere}
-use Rattle.rings.specs.declared.Refusal.the-variants.{RingFull, BadFile, NoEdgeOrFace, CannotFlip, BadText, OpenRing}
+use Rattle.rings.specs.declared.Refusal.the-variants.{TableTooShort, VertexCount, NoSuchVertex, RingImproper, NotMutual}
+use Rattle.rings.specs.declared.Refusal.the-variants.{NotTriangle, ControlCoordinate, LevelCount, LevelTooLarge, NoRoom}
+use Rattle.rings.specs.declared.Refusal.the-variants.{StackAltered, TooManyMoves, NotFinite, OutOfReach, NeighbourTaken}
+use Rattle.rings.specs.declared.Refusal.the-variants.{RingFull, FileLayout, NoEdgeOrFace, CannotFlip, BadText, OpenRing}
 
 -- number, place, and what the call gives: V, E and F, or one number in the first of the three
 pub record Paper : Type 0 where
@@ -25,23 +26,23 @@ refused number place d = record { number = number; place = place; first = d; sec
 
 -- the number of each reason: 1 to 17 as document 01's table has them, 18 and 19 as document 02's order 1, 20 and 21 as its order 4
 abbrev pub numberOf : Refusal → ℕ
-numberOf ControlTooShort = 1
-numberOf BadCount = 2
-numberOf (NoVertex i) = 3
-numberOf (ImproperRing v) = 4
-numberOf (OneSided v) = 5
-numberOf (OpenFace v) = 6
-numberOf (TooFar v) = 7
-numberOf BadLevels = 8
+numberOf TableTooShort = 1
+numberOf VertexCount = 2
+numberOf (NoSuchVertex i) = 3
+numberOf (RingImproper v) = 4
+numberOf (NotMutual v) = 5
+numberOf (NotTriangle v) = 6
+numberOf (ControlCoordinate v) = 7
+numberOf LevelCount = 8
 numberOf (LevelTooLarge k) = 9
 numberOf NoRoom = 10
-numberOf (NotAsRefined x) = 11
+numberOf (StackAltered x) = 11
 numberOf TooManyMoves = 12
 numberOf (NotFinite i) = 13
-numberOf (Outside i) = 14
-numberOf AlreadyThere = 15
+numberOf (OutOfReach i) = 14
+numberOf NeighbourTaken = 15
 numberOf RingFull = 16
-numberOf (BadFile at) = 17
+numberOf (FileLayout at) = 17
 numberOf NoEdgeOrFace = 18
 numberOf CannotFlip = 19
 numberOf (BadText line) = 20
@@ -49,23 +50,23 @@ numberOf (OpenRing v) = 21
 
 -- the place of each: what its case carries, or 0
 abbrev pub placeOf : Refusal → ℕ
-placeOf ControlTooShort = 0
-placeOf BadCount = 0
-placeOf (NoVertex i) = i
-placeOf (ImproperRing v) = v
-placeOf (OneSided v) = v
-placeOf (OpenFace v) = v
-placeOf (TooFar v) = v
-placeOf BadLevels = 0
+placeOf TableTooShort = 0
+placeOf VertexCount = 0
+placeOf (NoSuchVertex i) = i
+placeOf (RingImproper v) = v
+placeOf (NotMutual v) = v
+placeOf (NotTriangle v) = v
+placeOf (ControlCoordinate v) = v
+placeOf LevelCount = 0
 placeOf (LevelTooLarge k) = k
 placeOf NoRoom = 0
-placeOf (NotAsRefined x) = x
+placeOf (StackAltered x) = x
 placeOf TooManyMoves = 0
 placeOf (NotFinite i) = i
-placeOf (Outside i) = i
-placeOf AlreadyThere = 0
+placeOf (OutOfReach i) = i
+placeOf NeighbourTaken = 0
 placeOf RingFull = 0
-placeOf (BadFile at) = at
+placeOf (FileLayout at) = at
 placeOf NoEdgeOrFace = 0
 placeOf CannotFlip = 0
 placeOf (BadText line) = line

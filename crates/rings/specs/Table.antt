@@ -1,3 +1,4 @@
+-- To be believed.
 -- The lent tables of section "Tables and numbers" and the mesh that is read out of them: v has its valence at v, its ring from 32 v on, its point from 3 v on.
 -- A table after a call is said by `put` and `gather` alone: written here, everything else as it was.
 -- Assumes nothing.
@@ -14,17 +15,30 @@ abbrev pub gather {ℓ} : {A : Type ℓ} → (ℕ → List A) → ℕ → List A
 gather f zero = []
 gather f (suc n) = gather f n ++ f n
 
--- the table t with the block b written from place `at` on
+-- the table l with the block b written from place `at` on
 unfoldable pub put {ℓ} : {A : Type ℓ} → List A → ℕ → List A → List A
-put t at b = take at t ++ (b ++ drop (at + length b) t)
+put l at b = take at l ++ (b ++ drop (at + length b) l)
+
+-- the two tables that hold a mesh's rings
+pub record Lent : Type 0 where
+  pub valences : List ℕ
+  pub rings : List ℕ
+
+-- the tables, from the two lists that a caller lends
+abbrev pub lent : List ℕ → List ℕ → Lent
+lent vs rs = record { valences = vs; rings = rs }
+
+-- v's valence, as its table has it
+abbrev pub valenceAt : Lent → ℕ → ℕ
+valenceAt t v = getD (t .valences) v 0
 
 -- the used places of v's row
-unfoldable pub ringOf : List ℕ → List ℕ → ℕ → List ℕ
-ringOf vs rs v = take (getD vs v 0) (drop (v * mostValence) rs)
+unfoldable pub ringOf : Lent → ℕ → List ℕ
+ringOf t v = take (valenceAt t v) (drop (v * mostValence) (t .rings))
 
 -- the mesh of the first n rows
-unfoldable pub rows : ℕ → List ℕ → List ℕ → Mesh
-rows n vs rs = mesh n (ringOf vs rs)
+unfoldable pub rows : ℕ → Lent → Mesh
+rows n t = mesh n (ringOf t)
 
 -- a row as it is written: the ring, and the null vertex in the unused places
 unfoldable pub padded : List ℕ → List ℕ

@@ -1,3 +1,4 @@
+-- To be believed.
 -- The order of refusals: a verdict is a chain of reasons, each before those that are judged after it.
 -- Assumes nothing.
 use mathlib.Core.Bool.{Bool, cond}

@@ -2,36 +2,25 @@
 pub mod ring;
 pub mod table;
 
-// The limits that the code names.
-pub const LEAST_COUNT: usize = 4;
-
-pub const MOST_COUNT: usize = 1024;
-
-pub const LEAST_VALENCE: usize = 3;
-
-pub const MOST_VALENCE: usize = 32;
-
-pub const NULL_VERTEX: u16 = 65535;
-
 // Why a call was refused; a case with a number carries the place.
 pub enum Refusal {
-    ControlTooShort,
-    BadCount,
-    NoVertex(usize),
-    ImproperRing(usize),
-    OneSided(usize),
-    OpenFace(usize),
-    TooFar(usize),
-    BadLevels,
+    TableTooShort,
+    VertexCount,
+    NoSuchVertex(usize),
+    RingImproper(usize),
+    NotMutual(usize),
+    NotTriangle(usize),
+    ControlCoordinate(usize),
+    LevelCount,
     LevelTooLarge(usize),
     NoRoom,
-    NotAsRefined(usize),
+    StackAltered(usize),
     TooManyMoves,
     NotFinite(usize),
-    Outside(usize),
-    AlreadyThere,
+    OutOfReach(usize),
+    NeighbourTaken,
     RingFull,
-    BadFile(usize),
+    FileLayout(usize),
     NoEdgeOrFace,
     CannotFlip,
     BadText(usize),

@@ -6,9 +6,10 @@ ghost use Rattle.mesh.specs.Search.{some};
 ghost use Rattle.mesh.specs.Ring.{has, place, placeOf, placeAfter, placeBefore, follows};
 ghost use Rattle.mesh.specs.Tests.{badAt};
 use mesh::Place;
+use mesh::limits::Vertex;
 
 // The first place of x in a ring, or the ring's length.
-pub fn seek(ring: &[u16], x: usize) -> usize
+pub fn seek(ring: &[Vertex], x: usize) -> usize
     ensures { λ r. ⌜ r ≡ place x (now (ring .entry)) ⌝ }
 {
     let mut i = 0;
@@ -22,7 +23,7 @@ pub fn seek(ring: &[u16], x: usize) -> usize
 }
 
 // Where x stands.
-pub fn find(ring: &[u16], x: usize) -> Place
+pub fn find(ring: &[Vertex], x: usize) -> Place
     ensures { λ r. ⌜ r ≡ placeOf x (now (ring .entry)) ⌝ }
 {
     let i = seek(ring, x);
@@ -34,7 +35,7 @@ pub fn find(ring: &[u16], x: usize) -> Place
 }
 
 // Is x there?
-pub fn is_there(ring: &[u16], x: usize) -> bool
+pub fn is_there(ring: &[Vertex], x: usize) -> bool
     ensures { λ r. ⌜ r ≡ has x (now (ring .entry)) ⌝ }
 {
     seek(ring, x) < ring.len()
@@ -59,7 +60,7 @@ pub fn place_before(n: usize, i: usize) -> usize
 }
 
 // Does y follow x?
-pub fn follows_in(ring: &[u16], x: usize, y: usize) -> bool
+pub fn follows_in(ring: &[Vertex], x: usize, y: usize) -> bool
     ensures { λ r. ⌜ r ≡ follows (now (ring .entry)) x y ⌝ }
 {
     let mut i = 0;
@@ -73,7 +74,7 @@ pub fn follows_in(ring: &[u16], x: usize, y: usize) -> bool
 }
 
 // Is the number at place i of v's ring no vertex, v itself, or a repeat?
-pub fn bad_entry(ring: &[u16], v: usize, count: usize, i: usize) -> bool
+pub fn bad_entry(ring: &[Vertex], v: usize, count: usize, i: usize) -> bool
     requires { ⌜ i < length (now ring) ⌝ }
     ensures { λ r. ⌜ r ≡ badAt count v (now (ring .entry)) i ⌝ }
 {
@@ -88,7 +89,7 @@ pub fn bad_entry(ring: &[u16], v: usize, count: usize, i: usize) -> bool
 }
 
 // Has v's ring a bad place?
-pub fn has_bad(ring: &[u16], v: usize, count: usize) -> bool
+pub fn has_bad(ring: &[Vertex], v: usize, count: usize) -> bool
     ensures { λ r. ⌜ r ≡ some (badAt count v (now (ring .entry))) (length (now (ring .entry))) ⌝ }
 {
     let mut i = 0;

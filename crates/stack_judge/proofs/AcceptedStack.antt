@@ -7,9 +7,10 @@ use native.Mathlib.Omega.{arith}
 use lib.IntN.{ℤ}
 use lib.ListN.{length}
 use borrow.Author.Tests.{le-ltb}
-use Rattle.mesh.specs.Mesh.{edges}
+use Rattle.mesh.specs.Limits.{mostVertices}
 use Rattle.mesh.proofs.First.{or-both}
-use Rattle.rings.specs.Table.{rows}
+use Rattle.steps.specs.Sizes.{sizesOf}
+use Rattle.rings.specs.Table.{Lent, rows}
 use Rattle.rings.specs.Check.{checkVerdict}
 use Rattle.rings.specs.Verdict.{refuseIf, refuseAt, andThen}
 use Rattle.rings.specs.declared.Verdict.{Verdict}
@@ -22,30 +23,30 @@ use Rattle.stack_judge.specs.Accepts.{AcceptsStack}
 use Rattle.stack_judge.specs.StackVerdict.{stackVerdict}
 use Rattle.stack_judge.proofs.Judged.{good-levels, level-fits, stack-room}
 
-module _ (n levels : ℕ) (vs rs : List ℕ) (ps : List ℤ) where
-  pub stack-only : stackVerdict n levels vs rs ps ≡ Accepted → AcceptsStack n levels vs rs ps
+module _ (n levels : ℕ) (t : Lent) (ps : List ℤ) where
+  pub stack-only : stackVerdict n levels t ps ≡ Accepted → AcceptsStack n levels t ps
   unfolding stackVerdict
   stack-only h =
       let a = if-accepted (badLevels levels) _ _ h in
-      let b = then-accepted (checkVerdict n vs rs ps) _ (a .1) in
-      let c = at-accepted (tooLarge n (edges (rows n vs rs))) (suc levels) _ _ (b .1) in
-      let d = if-accepted (shortStack (stackCount n (edges (rows n vs rs)) levels) vs rs ps) _ _ (c .1) in
-      let r = stack-room (stackCount n (edges (rows n vs rs)) levels) vs rs ps (d .0) in
+      let b = then-accepted (checkVerdict n t ps) _ (a .1) in
+      let c = at-accepted (tooLarge (sizesOf n (rows n t))) (suc levels) _ _ (b .1) in
+      let d = if-accepted (shortStack (stackCount (sizesOf n (rows n t)) levels) t ps) _ _ (c .1) in
+      let r = stack-room (stackCount (sizesOf n (rows n t)) levels) t ps (d .0) in
       record {
         low = good-levels levels (a .0) .0;
         high = good-levels levels (a .0) .1;
-        control = accepted-only n vs rs ps (b .0);
-        fits = λ k l. level-fits n (edges (rows n vs rs)) k (c .0 .below k (omega arith));
+        control = accepted-only n t ps (b .0);
+        fits = λ k l. level-fits (sizesOf n (rows n t)) k (c .0 .below k (omega arith));
         room = r .0;
         points = r .1;
       }
 
-  pub stack-all : AcceptsStack n levels vs rs ps → stackVerdict n levels vs rs ps ≡ Accepted
+  pub stack-all : AcceptsStack n levels t ps → stackVerdict n levels t ps ≡ Accepted
   unfolding stackVerdict badLevels tooLarge shortStack andThen
   stack-all a =
-      let m : ℕ = stackCount n (edges (rows n vs rs)) levels in
+      let m : ℕ = stackCount (sizesOf n (rows n t)) levels in
       if-clear _ _ _ (or-both _ _ (le-ltb levels 1 (a .low)) (le-ltb 4 levels (a .high)))
-      ∙ ap (λ (w : Verdict). andThen w (refuseAt (tooLarge n (edges (rows n vs rs))) (suc levels) LevelTooLarge (refuseIf (shortStack m vs rs ps) NoRoom Accepted)))
-      (accepted-all n vs rs ps (a .control))
-      ∙ at-clear _ (suc levels) _ _ (λ k l. le-ltb 65535 (levelCount n (edges (rows n vs rs)) k) (a .fits k (omega arith)))
-      ∙ if-clear _ _ _ (or-both _ _ (le-ltb (length vs) m (a .room .valences)) (or-both _ _ (le-ltb (length rs) (m * 32) (a .room .rings)) (le-ltb (length ps) (m * 3) (a .points))))
+      ∙ ap (λ (w : Verdict). andThen w (refuseAt (tooLarge (sizesOf n (rows n t))) (suc levels) LevelTooLarge (refuseIf (shortStack m t ps) NoRoom Accepted)))
+      (accepted-all n t ps (a .control))
+      ∙ at-clear _ (suc levels) _ _ (λ k l. le-ltb mostVertices (levelCount (sizesOf n (rows n t)) k) (a .fits k (omega arith)))
+      ∙ if-clear _ _ _ (or-both _ _ (le-ltb (length (t .valences)) m (a .room .valences)) (or-both _ _ (le-ltb (length (t .rings)) (m * 32) (a .room .rings)) (le-ltb (length ps) (m * 3) (a .points))))

@@ -1,22 +1,25 @@
-// A stack's sizes, worked out from V and E alone, and its judgement: reason 8, the check, reasons 9 and 10.
+// A stack's sizes, worked out from V and E of level 0 alone, and its judgement: reason 8, the check, reasons 9 and 10.
 ghost use mathlib.Core.Path.{_≡_};
 ghost use Prim.Native.Nat.{suc, _≤_};
-ghost use Rattle.mesh.specs.Limits.{mostCount, mostLevels};
+ghost use Rattle.mesh.specs.Limits.{mostCount, mostLevels, edgeBound};
 ghost use Rattle.mesh.specs.Search.{first};
+ghost use Rattle.steps.specs.Sizes.{closedSizes};
+ghost use Rattle.rings.specs.Table.{lent};
 ghost use Rattle.stack_judge.specs.Stack.{stackCount, badLevels, tooLarge, shortStack};
 ghost use Rattle.stack_judge.specs.StackVerdict.{stackVerdict};
-use mesh_check::edge_count;
-use mesh_check::judge;
-use rings::MOST_VALENCE;
+use check_mesh::edge_count;
+use check_mesh::judge;
+use level::above;
+use level::ground;
+use mesh::limits::LEAST_LEVELS;
+use mesh::limits::MOST_LEVELS;
+use mesh::limits::MOST_VALENCE;
+use mesh::limits::MOST_VERTICES;
+use mesh::limits::Vertex;
 use rings::Refusal;
 use rings::Verdict;
 
-// The limits that the code names.
-pub const LEAST_LEVELS: usize = 1;
-
-pub const MOST_LEVELS: usize = 4;
-
-pub const MOST_VERTICES: usize = 65535;
+pub mod level;
 
 // Reason 8: is the number of levels not 1 to 4?
 pub fn is_bad_levels(levels: usize) -> bool
@@ -31,49 +34,43 @@ pub fn is_bad_levels(levels: usize) -> bool
 // Reason 9: the first of levels 0 to L that has more than 65,535 vertices, or L + 1.
 fn first_too_large(count: usize, edges: usize, levels: usize) -> usize
     requires { ⌜ count ≤ mostCount ⌝ }
-    requires { ⌜ edges ≤ 33554432 ⌝ }
+    requires { ⌜ edges ≤ edgeBound ⌝ }
     requires { ⌜ levels ≤ mostLevels ⌝ }
-    ensures { λ r. ⌜ r ≡ first (tooLarge count edges) (suc levels) ⌝ }
+    ensures { λ r. ⌜ r ≡ first (tooLarge (closedSizes count edges)) (suc levels) ⌝ }
 {
-    let mut n = count;
-    let mut e = edges;
+    let mut level = ground(count, edges);
     let mut k = 0;
     while k <= levels {
-        if MOST_VERTICES < n {
+        if MOST_VERTICES < level.vertices {
             return k;
         }
-        n += e;
-        e *= 4;
+        level = above(level);
         k += 1;
     }
     k
 }
 
-// The vertices of levels 0 to L.
+// The vertices of levels 0 to L: where level L + 1 would begin.
 pub fn stack_count(count: usize, edges: usize, levels: usize) -> usize
     requires { ⌜ count ≤ mostCount ⌝ }
-    requires { ⌜ edges ≤ 33554432 ⌝ }
+    requires { ⌜ edges ≤ edgeBound ⌝ }
     requires { ⌜ levels ≤ mostLevels ⌝ }
-    ensures { λ r. ⌜ r ≡ stackCount count edges levels ⌝ }
+    ensures { λ r. ⌜ r ≡ stackCount (closedSizes count edges) levels ⌝ }
     ensures { λ r. ⌜ r ≤ 4294967296 ⌝ }
 {
-    let mut n = count;
-    let mut e = edges;
-    let mut total: usize = 0;
+    let mut level = ground(count, edges);
     let mut k = 0;
     while k <= levels {
-        total += n;
-        n += e;
-        e *= 4;
+        level = above(level);
         k += 1;
     }
-    total
+    level.start
 }
 
 // Reason 10: has a table fewer than n, 32 n or 3 n items?
-fn is_short_stack(valences: &[u16], rings: &[u16], positions: &[i32], n: usize) -> bool
+fn is_short_stack(valences: &[u16], rings: &[Vertex], positions: &[i32], n: usize) -> bool
     requires { ⌜ n ≤ 4294967296 ⌝ }
-    ensures { λ r. ⌜ r ≡ shortStack n (now (valences .entry)) (now (rings .entry)) (now (positions .entry)) ⌝ }
+    ensures { λ r. ⌜ r ≡ shortStack n (lent (now (valences .entry)) (now (rings .entry))) (now (positions .entry)) ⌝ }
 {
     if valences.len() < n {
         return true;
@@ -87,15 +84,15 @@ fn is_short_stack(valences: &[u16], rings: &[u16], positions: &[i32], n: usize) 
 // May a stack of these levels stand in these tables? The control mesh is judged whole, the levels by their sizes.
 pub fn judge_stack(
     valences: &[u16],
-    rings: &[u16],
+    rings: &[Vertex],
     positions: &[i32],
     count: usize,
     levels: usize,
 ) -> Verdict
-    ensures { λ r. ⌜ r ≡ stackVerdict count levels (now (valences .entry)) (now (rings .entry)) (now (positions .entry)) ⌝ }
+    ensures { λ r. ⌜ r ≡ stackVerdict count levels (lent (now (valences .entry)) (now (rings .entry))) (now (positions .entry)) ⌝ }
 {
     if is_bad_levels(levels) {
-        return Verdict::Refused(Refusal::BadLevels);
+        return Verdict::Refused(Refusal::LevelCount);
     }
     if let Verdict::Refused(r) = judge(valences, rings, positions, count) {
         return Verdict::Refused(r);

@@ -8,9 +8,9 @@ use mir.Syntax.{w32}
 use mir.Val.{SFits, toZ, ofZ}
 use mir.ValLaws.{toZ-ofZ, toZ-pos}
 use Rattle.mesh.specs.Limits.{mostUnits}
-use Rattle.mesh.specs.Round.{Is, rounded}
-use Rattle.mesh.proofs.Rounding.{rounded-sub, roundNat-same}
-use Rattle.mesh.proofs.Ints.{sub-pos, sub-neg, sub-eq, by-sign, plus, self-pos}
+use Rattle.steps.specs.Round.{Is, rounded}
+use Rattle.steps.proofs.Rounding.{rounded-sub, roundNat-same}
+use Rattle.steps.proofs.Ints.{sub-pos, sub-neg, sub-eq, by-sign, plus, self-pos}
 use Rattle.units.specs.Coordinate.{InRange, Biased}
 
 -- ---- what the machine holds

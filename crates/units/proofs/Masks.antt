@@ -8,10 +8,10 @@ use native.Mathlib.Omega.{arith}
 use lib.Dec.{eqb}
 use lib.IntN.{ℤ, pos, negsuc, _+ℤ_, _*ℤ_, *ℤ-zero}
 use lib.ListN.{length}
-use Rattle.mesh.specs.Round.{Is, rounded}
-use Rattle.mesh.specs.Mask.{weighted, byMask}
-use Rattle.mesh.specs.Loop.{term, vertexMask, edgeMask}
-use Rattle.mesh.proofs.Ints.{sub-neg, sub-eq, plus, times, self-pos}
+use Rattle.steps.specs.Round.{Is, rounded}
+use Rattle.steps.specs.Mask.{weighted, byMask, term}
+use Rattle.steps.proofs.Ints.{sub-neg, sub-eq, plus, times, self-pos}
+use Rattle.loop_step.specs.Loop.{vertexMask, edgeMask}
 use Rattle.units.specs.Points.{edgePoint, vertexPoint, ringSum}
 
 -- every whole number is a difference of two natural ones

@@ -1,3 +1,4 @@
+-- To be believed.
 -- Coordinates in units (section "Tables and numbers"): the range they keep to, and how the code moves them up into the natural numbers.
 -- Assumes nothing.
 use mathlib.Core.Bool.{Bool}
@@ -5,7 +6,7 @@ use Prim.Native.Nat.{ℕ, _+_, _≤_}
 use lib.Dec.{ltb}
 use lib.IntN.{ℤ, natAbs}
 use Rattle.mesh.specs.Limits.{mostUnits}
-use Rattle.mesh.specs.Round.{Is}
+use Rattle.steps.specs.Round.{Is}
 
 -- a coordinate is in the range, either end included
 abbrev pub InRange : ℤ → Type 0

@@ -1,3 +1,4 @@
+-- To be believed.
 -- One coordinate of a refined point, from the coordinates below: the two formulas of section "Refinement, one level".
 -- Assumes nothing.
 use mathlib.Core.Bool.{cond}
@@ -5,7 +6,7 @@ use mathlib.Core.List.{List, [], _∷_}
 use Prim.Native.Nat.{ℕ, _*_}
 use lib.Dec.{eqb}
 use lib.IntN.{ℤ, pos, _+ℤ_, _*ℤ_}
-use Rattle.mesh.specs.Round.{rounded}
+use Rattle.steps.specs.Round.{rounded}
 
 -- the new vertex of edge p, q, between a and b: (3(p + q) + a + b) / 8
 unfoldable pub edgePoint : ℤ → ℤ → ℤ → ℤ → ℤ

@@ -3,7 +3,7 @@ ghost use mathlib.Core.Path.{_≡_};
 ghost use Prim.Native.Nat.{_+_, _*_, _^_, _≤_, _<_};
 ghost use lib.IntN.{subℕ};
 ghost use Rattle.mesh.specs.Limits.{leastValence, mostValence, mostUnits};
-ghost use Rattle.mesh.specs.Round.{rounded, roundNat};
+ghost use Rattle.steps.specs.Round.{rounded, roundNat};
 ghost use Rattle.units.specs.Coordinate.{InRange, offset, Biased};
 ghost use Rattle.units.specs.Points.{edgePoint, vertexPoint};
 use super::OFFSET;

@@ -2,15 +2,16 @@
 use borrow.Author.Needs.{needs}
 use native.Mathlib.Omega.{arith}
 use mathlib.Core.Path.{sym, _∙_}
+use Rattle.rings.specs.Table.{lent}
 use Rattle.rings.proofs.Checks.{told-most, long-tables}
 use Rattle.file_writing.specs.Storing.{Stored}
 use Rattle.file_writing.proofs.RowsWritten.{stored, file-put, write-bad, write-short, write-over, write-full, write-done}
 use Rattle.file_writing.proofs.write.Statement.{statement}
 use Rattle.file_writing.proofs.write.Tie as tie
 
-held : (c : tie.Else3) → let a = c .before .before .before .before .before .before .before .before .before .args in Stored (a .count) (a .valences .now) (a .rings .now) (a .positions .now)
+held : (c : tie.Else3) → let a = c .before .before .before .before .before .before .before .before .before .args in Stored (a .count) (lent (a .valences .now) (a .rings .now)) (a .positions .now)
 held c =
-    stored _ _ _ _ (c .before .before .before .before .before .before .before .before .before .args .file .now)
+    stored _ _ _ (c .before .before .before .before .before .before .before .before .before .args .file .now)
     (c .before .before .before .before .before .is-bad-count .ensures) (c .before .before .before .before .if1 .left) (c .before .before .before .is-short .ensures)
     (c .before .before .if2 .left) _ (c .before .first-over .ensures) (c .if3 .left)
 
@@ -18,20 +19,20 @@ is-bad-count-requires : tie.Need-is-bad-count-requires
 is-bad-count-requires c κs = search needs
 
 returns : tie.Need-returns
-returns c = write-bad _ _ _ _ _ (c .before .is-bad-count .ensures) (c .if1 .taken)
+returns c = write-bad _ _ _ _ (c .before .is-bad-count .ensures) (c .if1 .taken)
 
 is-short-requires : tie.Need-is-short-requires
 is-short-requires c κs = told-most _ _ (c .before .is-bad-count .ensures) (c .if1 .left)
 
 returns-2 : tie.Need-returns-2
-returns-2 c = write-short _ _ _ _ _ (c .before .before .before .is-bad-count .ensures) (c .before .before .if1 .left) (c .before .is-short .ensures) (c .if2 .taken)
+returns-2 c = write-short _ _ _ _ (c .before .before .before .is-bad-count .ensures) (c .before .before .if1 .left) (c .before .is-short .ensures) (c .if2 .taken)
 
 first-over-requires : tie.Need-first-over-requires
-first-over-requires c κs = long-tables _ _ _ _ (sym (c .before .is-short .ensures) ∙ c .if2 .left) .0 .valences
+first-over-requires c κs = long-tables _ _ _ (sym (c .before .is-short .ensures) ∙ c .if2 .left) .0 .valences
 
 returns-3 : tie.Need-returns-3
 returns-3 c =
-    write-over _ _ _ _ _ (c .before .before .before .before .before .is-bad-count .ensures) (c .before .before .before .before .if1 .left)
+    write-over _ _ _ _ (c .before .before .before .before .before .is-bad-count .ensures) (c .before .before .before .before .if1 .left)
     (c .before .before .before .is-short .ensures) (c .before .before .if2 .left) _ (c .before .first-over .ensures) (c .if3 .taken)
 
 rows-length-requires : tie.Need-rows-length-requires
@@ -42,7 +43,7 @@ add-size c = search needs
 
 returns-4 : tie.Need-returns-4
 returns-4 c =
-    write-full _ _ _ _ _ (c .before .before .before .before .before .before .before .is-bad-count .ensures) (c .before .before .before .before .before .before .if1 .left)
+    write-full _ _ _ _ (c .before .before .before .before .before .before .before .is-bad-count .ensures) (c .before .before .before .before .before .before .if1 .left)
     (c .before .before .before .before .before .is-short .ensures) (c .before .before .before .before .if2 .left) _ (c .before .before .before .first-over .ensures)
     (c .before .before .if3 .left) _ (c .before .rows-length .ensures .0) (c .if4 .taken)
 
@@ -84,7 +85,7 @@ returns-5 c =
     (c .before .before .before .before .before .before .before .before .before .before .put-two .ensures)
     (c .before .before .before .before .before .before .put-rows .ensures .0) (c .before .before .put-head2 .ensures)
     (c .before .before .before .before .before .before .put-rows .ensures .1) in
-    write-done _ _ _ _ _ (c .before .before .before .before .before .before .before .before .before .before .before .before .before .before .before .before .before .before .before .before .before .before .before .is-bad-count .ensures) (c .before .before .before .before .before .before .before .before .before .before .before .before .before .before .before .before .before .before .before .before .before .before .if1 .left) (c .before .before .before .before .before .before .before .before .before .before .before .before .before .before .before .before .before .before .before .before .before .is-short .ensures) (c .before .before .before .before .before .before .before .before .before .before .before .before .before .before .before .before .before .before .before .before .if2 .left) _ (c .before .before .before .before .before .before .before .before .before .before .before .before .before .before .before .before .before .before .before .first-over .ensures) (c .before .before .before .before .before .before .before .before .before .before .before .before .before .before .before .before .before .before .if3 .left) _ (c .before .before .before .before .before .before .before .before .before .before .before .before .before .before .before .before .before .rows-length .ensures .0) (c .before .before .before .before .before .before .before .before .before .before .before .before .before .before .before .before .if4 .left) w
+    write-done _ _ _ _ (c .before .before .before .before .before .before .before .before .before .before .before .before .before .before .before .before .before .before .before .before .before .before .before .is-bad-count .ensures) (c .before .before .before .before .before .before .before .before .before .before .before .before .before .before .before .before .before .before .before .before .before .before .if1 .left) (c .before .before .before .before .before .before .before .before .before .before .before .before .before .before .before .before .before .before .before .before .before .is-short .ensures) (c .before .before .before .before .before .before .before .before .before .before .before .before .before .before .before .before .before .before .before .before .if2 .left) _ (c .before .before .before .before .before .before .before .before .before .before .before .before .before .before .before .before .before .before .before .first-over .ensures) (c .before .before .before .before .before .before .before .before .before .before .before .before .before .before .before .before .before .before .if3 .left) _ (c .before .before .before .before .before .before .before .before .before .before .before .before .before .before .before .before .before .rows-length .ensures .0) (c .before .before .before .before .before .before .before .before .before .before .before .before .before .before .before .before .if4 .left) w
 
 pub write-spec : {M : Type 1} → statement M
 write-spec =

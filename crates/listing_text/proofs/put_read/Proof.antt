@@ -36,7 +36,7 @@ same-length-4 c = search needs
 returns : tie.Need-returns
 returns c =
     wrote-is
-    (read-refused _ _ _ _ (c .before .before .before .before .before .r .given .1) (c .before .before .before .before .before .before .before .before .before .before .before .before .read .ensures .0))
+    (read-refused _ _ _ (c .before .before .before .before .before .r .given .1) (c .before .before .before .before .before .before .before .before .before .before .before .before .read .ensures .0))
     (wrote-wide 32768 (omega arith) (c .before .before .put-refused .ensures))
 
 same-length-5 : tie.Need-same-length-5
@@ -54,7 +54,7 @@ same-length-8 c = search needs
 returns-2 : tie.Need-returns-2
 returns-2 c =
     let w = c .before .before .before .before .before .before .before .before .before .before .before .before .before .before .before .before .before .before .before .before .read .ensures in
-    wrote-is (read-counted _ _ _ _ _ _ _ _ (c .before .before .before .before .before .before .before .before .before .before .before .before .before .count .given .1) (w .0) (w .1 .0) (w .1 .1 .0) (w .1 .1 .1)) (c .before .before .before .before .before .before .before .put-refined .ensures)
+    wrote-is (read-counted _ _ _ _ _ _ (c .before .before .before .before .before .before .before .before .before .before .before .before .before .count .given .1) (w .0) (w .1 .0) (w .1 .1 .0) (w .1 .1 .1)) (c .before .before .before .before .before .before .before .put-refined .ensures)
 
 pub put-read-spec : {M : Type 1} → statement M
 put-read-spec =

@@ -4,6 +4,7 @@ use mathlib.Core.Path.{sym, _∙_}
 use Rattle.numerals.proofs.Writing.{wrote-is, wrote-wide}
 use Rattle.listing_text.proofs.Outcome.{level-fits, level-refused, level-counted}
 use borrow.Author.Needs.{needs}
+use Rattle.rings.specs.Table.{lent}
 use Rattle.listing_text.proofs.put_refined.Statement.{statement}
 use Rattle.listing_text.proofs.put_refined.Tie as tie
 
@@ -24,7 +25,7 @@ put-level-requires c κs =
     let s = c .before .before .before .before .before .before .before .before .before .before .before .before .before .before .before .before .before .before in
     let a = s .args in
     let h =
-    level-fits (a .count) (a .valences .now) (a .rings .now) (a .positions .now) _ _ _
+    level-fits (a .count) (lent (a .valences .now) (a .rings .now)) (a .positions .now) _ _ _
     (sym (c .before .before .before .before .v .given .1) ∙ c .before .before .before .before .before .before .before .before .before .before .before .refine .ensures .0) in
     let k = c .before .before .before .before .before .before .before .before .before .before .before .refine .kept in
     (omega arith, (omega arith, omega arith))
@@ -63,7 +64,7 @@ returns-2 : tie.Need-returns-2
 returns-2 c =
     let w = c .before .before .before .before .before .before .before .before .before .before .before .before .before .before .refine .ensures in
     let a = c .before .before .before .before .before .before .before .before .before .before .before .before .before .before .before .before .before .before .before .before .before .args in
-    let h = level-fits (a .count) (a .valences .now) (a .rings .now) (a .positions .now) _ _ _ (sym (c .before .before .before .before .before .before .before .v .given .1) ∙ w .0) in
+    let h = level-fits (a .count) (lent (a .valences .now) (a .rings .now)) (a .positions .now) _ _ _ (sym (c .before .before .before .before .before .before .before .v .given .1) ∙ w .0) in
     wrote-is (level-counted _ _ _ _ (c .before .before .before .before .before .before .before .v .given .1) (w .0) (w .1 .0) (w .1 .1 .1)) (wrote-wide 32768 (omega arith) (c .before .before .put-level .ensures))
 
 pub put-refined-spec : {M : Type 1} → statement M

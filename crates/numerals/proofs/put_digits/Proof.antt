@@ -2,7 +2,7 @@
 use native.Mathlib.Omega.{arith}
 use Prim.Native.Nat.{_≤_}
 use borrow.Author.Needs.{needs}
-use Rattle.meshfile.proofs.Blocks.{put-length}
+use Rattle.file_format.proofs.Blocks.{put-length}
 use Rattle.numerals.proofs.Backward.{Backward, backward-none, backward-more, backward-all}
 use Rattle.numerals.proofs.put_digits.Statement.{statement}
 use Rattle.numerals.proofs.put_digits.Tie as tie

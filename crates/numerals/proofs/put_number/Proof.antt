@@ -1,6 +1,6 @@
 -- `put_number` meets its contract. Assumes nothing.
 use native.Mathlib.Omega.{arith}
-use Rattle.meshfile.proofs.Blocks.{put-length}
+use Rattle.file_format.proofs.Blocks.{put-length}
 use Rattle.numerals.proofs.Digits.{number-length}
 use Rattle.numerals.proofs.Writing.{number-wrote}
 use borrow.Author.Needs.{needs}

@@ -2,6 +2,7 @@
 use Prim.Native.Nat.{_-_}
 use borrow.Author.Needs.{needs}
 use native.Mathlib.Omega.{arith}
+use Rattle.rings.specs.Table.{lent}
 use Rattle.rings.proofs.Rows.{fit-row}
 use Rattle.off_lines.proofs.Writing.{written-length}
 use Rattle.off_faces.proofs.FacesWritten.{Reached, reached-none, reached-fits, reached-more, reached-end, row-ascending}
@@ -9,13 +10,13 @@ use Rattle.off_faces.proofs.put_faces.Statement.{statement}
 use Rattle.off_faces.proofs.put_faces.Tie as tie
 
 abbrev Inv-loop : tie.InvT-loop
-Inv-loop text₀ at valences rings count end₀ a₀ text end a = Reached count valences rings text₀ at a text end
+Inv-loop text₀ at valences rings count end₀ a₀ text end a = Reached count (lent valences rings) text₀ at a text end
 
 abbrev μ-loop : tie.MeasureT-loop
 μ-loop text₀ at valences rings count end₀ a₀ text end a = count - a
 
 loop-holds : tie.Need-loop-holds Inv-loop μ-loop
-loop-holds c = let h = c .before .before .before .pre .1 .1 in reached-none _ _ _ (omega arith)
+loop-holds c = let h = c .before .before .before .pre .1 .1 in reached-none _ _ (omega arith)
 
 ring-of-requires : tie.Need-ring-of-requires Inv-loop μ-loop
 ring-of-requires c κs = fit-row (c .before .before .before .before .before .before .pre .0) (c .before .loop-test .taken)
@@ -25,7 +26,7 @@ put-faces-of-requires c κs =
     let start = c .before .before .before .before .before .before .before in
     let h = c .before .before .loop-test .taken in
     let e = c .ring-of .ensures .0 in (
-      row-ascending (start .args .count) (start .args .valences .now) (start .args .rings .now) (start .pre .1 .0) h _ e,
+      row-ascending (start .args .count) (lent (start .args .valences .now) (start .args .rings .now)) (start .pre .1 .0) h _ e,
       reached-fits (c .before .before .before .loop .inv) h _ e (start .pre .1 .1),
     )
 

@@ -1,7 +1,7 @@
 -- `fill_block` meets its contract: the rows before the first that is over its width are written. Assumes nothing.
 use borrow.Author.Needs.{needs}
 use native.Mathlib.Omega.{arith}
-use Rattle.meshfile.proofs.Blocks.{put-length}
+use Rattle.file_format.proofs.Blocks.{put-length}
 use Rattle.off_gather.proofs.Rows.{tables-room}
 use Rattle.off_filling.proofs.BlockFilled.{Reached, reached, rows-within, rows-room, rows-gathered, rows-narrow}
 use Rattle.off_filling.proofs.BlockFilled.{over-narrow, stepped-full, stepped-over}

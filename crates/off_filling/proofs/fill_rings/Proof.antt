@@ -1,5 +1,6 @@
 -- `fill_rings` meets its contract: there is less ahead with each block. Assumes nothing.
-use Rattle.meshfile.proofs.Blocks.{put-length}
+use Rattle.file_format.proofs.Blocks.{put-length}
+use Rattle.rings.specs.Table.{lent}
 use Rattle.off_blocks.specs.Blocks.{ahead}
 use Rattle.off_gather.proofs.Rows.{tables-same}
 use Rattle.off_filling.proofs.BlocksFilled.{Passed, passed-none, passed-fillable, passed-more, passed-all}
@@ -8,7 +9,7 @@ use Rattle.off_filling.proofs.fill_rings.Tie as tie
 
 abbrev Inv-loop : tie.InvT-loop
 Inv-loop text from faces count counts₀ froms₀ tos₀ valences₀ rings₀ at₀ width₀ counts froms tos valences rings at width =
-    Passed text count at width counts₀ froms₀ tos₀ valences₀ rings₀ counts froms tos valences rings
+    Passed text count at width counts₀ froms₀ tos₀ (lent valences₀ rings₀) counts froms tos (lent valences rings)
 
 abbrev μ-loop : tie.MeasureT-loop
 μ-loop text from faces count counts₀ froms₀ tos₀ valences₀ rings₀ at₀ width₀ counts froms tos valences rings at width =

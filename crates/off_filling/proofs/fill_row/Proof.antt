@@ -4,6 +4,7 @@ use native.Mathlib.Omega.{arith}
 use lib.ListN.{getD}
 use mathlib.Core.Path.{_∙_}
 use Prim.Native.Nat.{ℕ, _≤_, _<_, _-_}
+use Rattle.mesh.specs.Limits.{placeBound}
 use Rattle.off_filling.proofs.RowWritten.{Walked, walked-none, walked-more, walked-all}
 use Rattle.off_filling.proofs.fill_row.Statement.{statement}
 use Rattle.off_filling.proofs.fill_row.Tie as tie
@@ -19,7 +20,7 @@ abbrev start : tie.At-loop Inv-loop μ-loop → tie.Start Inv-loop μ-loop
 start c = c .before .before .before .before .before
 
 -- what follows is an entry of two bytes
-small : (c : tie.At-loop Inv-loop μ-loop) (i : ℕ) → getD (start c .args .to .now) i 0 < 65536
+small : (c : tie.At-loop Inv-loop μ-loop) (i : ℕ) → getD (start c .args .to .now) i 0 < placeBound
 small c i = omega (arith, c .before .before .before .shared-slice-known2 .given i)
 
 mul-a : tie.Need-mul-a Inv-loop μ-loop

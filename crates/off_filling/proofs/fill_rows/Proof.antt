@@ -4,7 +4,8 @@ use native.Mathlib.Omega.{arith}
 use mathlib.Core.Path.{_∙_, sym}
 use lib.ListN.{length, getD}
 use Prim.Native.Nat.{_≤_, _<_, _+_, _-_, _*_}
-use Rattle.meshfile.proofs.Blocks.{put-length}
+use Rattle.rings.specs.Table.{lent}
+use Rattle.file_format.proofs.Blocks.{put-length}
 use Rattle.off_gather.proofs.Rows.{row-froms, row-tos}
 use Rattle.off_filling.specs.Filling.{Filled}
 use Rattle.off_filling.proofs.RowsFilled.{filled-none, filled-row, filled-all, valence-small, valence-there, row-there}
@@ -12,7 +13,7 @@ use Rattle.off_filling.proofs.fill_rows.Statement.{statement}
 use Rattle.off_filling.proofs.fill_rows.Tie as tie
 
 abbrev Inv-loop : tie.InvT-loop
-Inv-loop text count first rows width counts froms tos valences₀ rings₀ j₀ valences rings j = (j ≤ rows) × Filled text first j valences₀ rings₀ valences rings
+Inv-loop text count first rows width counts froms tos valences₀ rings₀ j₀ valences rings j = (j ≤ rows) × Filled text first j (lent valences₀ rings₀) (lent valences rings)
 
 abbrev μ-loop : tie.MeasureT-loop
 μ-loop text count first rows width counts froms tos valences₀ rings₀ j₀ valences rings j = rows - j

@@ -32,7 +32,7 @@ is-bad-count-requires : tie.Need-is-bad-count-requires
 is-bad-count-requires c κs = search needs
 
 returns : tie.Need-returns
-returns c = count-refused _ _ _ _ (whole (c .before .before .before)) _ (c .before .is-bad-count .ensures) (c .if1 .taken)
+returns c = count-refused _ _ _ (whole (c .before .before .before)) _ (c .before .is-bad-count .ensures) (c .if1 .taken)
 
 is-short-requires : tie.Need-is-short-requires
 is-short-requires c κs = told-most _ _ (c .before .before .before .before .is-bad-count .ensures) (c .before .before .before .if1 .left)
@@ -49,14 +49,14 @@ same-length-3 c = search needs
 returns-2 : tie.Need-returns-2
 returns-2 c =
     let e = from-short (c .before) in
-    short-refused _ _ _ _ (whole (e .before .before .before)) _ (e .before .is-bad-count .ensures) (e .if1 .left) _
+    short-refused _ _ _ (whole (e .before .before .before)) _ (e .before .is-bad-count .ensures) (e .if1 .left) _
     (c .before .is-short .ensures) (c .if2 .taken)
 
 read-lines-requires : tie.Need-read-lines-requires
 read-lines-requires c κs =
     let l = c .before .before .before in
     let e = from-short (l .before) in
-    lines-known _ _ _ _ (whole (e .before .before .before)) _ (e .before .is-bad-count .ensures) (e .if1 .left) _
+    lines-known _ _ _ (whole (e .before .before .before)) _ (e .before .is-bad-count .ensures) (e .if1 .left) _
     (l .before .is-short .ensures) (l .if2 .left)
 
 enum-known-r-2 : tie.Need-enum-known-r-2
@@ -66,7 +66,7 @@ enum-told : tie.Need-enum-told
 enum-told c = search needs
 
 returns-3 : tie.Need-returns-3
-returns-3 c = text-refused _ _ _ _ _ (refusal-told _ _ (sym (c .before .before .before .judge-text .ensures) ∙ c .before .r .given .1))
+returns-3 c = text-refused _ _ _ _ (refusal-told _ _ (sym (c .before .before .before .judge-text .ensures) ∙ c .before .r .given .1))
 
 same-length-4 : tie.Need-same-length-4
 same-length-4 c = search needs
@@ -83,7 +83,7 @@ returns-4 c =
     let l = from-lines r in
     let e = from-short (l .before) in
     let k = r .read-lines .ensures in
-    lines-refused _ _ _ _ (whole (e .before .before .before)) _ (e .before .is-bad-count .ensures) (e .if1 .left) _
+    lines-refused _ _ _ (whole (e .before .before .before)) _ (e .before .is-bad-count .ensures) (e .if1 .left) _
     (l .before .is-short .ensures) (l .if2 .left)
     (k .0) (k .1 .0) (k .1 .1 .0) (k .1 .1 .1) _ (c .before .r2 .given .1)
 
@@ -102,7 +102,7 @@ returns-5 c =
     let l = from-lines r in
     let e = from-short (l .before) in
     let k = r .read-lines .ensures in
-    lines-accepted _ _ _ _ (whole (e .before .before .before)) _ (e .before .is-bad-count .ensures) (e .if1 .left) _
+    lines-accepted _ _ _ (whole (e .before .before .before)) _ (e .before .is-bad-count .ensures) (e .if1 .left) _
     (l .before .is-short .ensures) (l .if2 .left)
     (k .0) (k .1 .0) (k .1 .1 .0) (k .1 .1 .1) (c .enum-told .given .1)
 

@@ -3,8 +3,9 @@ use Prim.Native.Nat.{_+_, _≤_}
 use borrow.Author.Needs.{needs}
 use native.Mathlib.Omega.{arith}
 use lib.ListN.{length}
+use Rattle.rings.specs.Table.{lent}
 use Rattle.rings.specs.Accepts.{Accepts}
-use Rattle.meshfile.proofs.Blocks.{put-length}
+use Rattle.file_format.proofs.Blocks.{put-length}
 use Rattle.rings.proofs.Accepted.{accepted-fit, accepted-all}
 use Rattle.off_text.specs.WriteOff.{countsLine}
 use Rattle.off_lines.proofs.Writing.{written-length}
@@ -23,18 +24,18 @@ abbrev from-vertices : tie.After-put-vertices → tie.After-put-counts
 from-vertices c = c .before .before .before .before
 
 -- what is known at the start, and that the parts fit
-abbrev checked : (s : tie.Start) → Accepts (s .args .count) (s .args .valences .now) (s .args .rings .now) (s .args .positions .now)
+abbrev checked : (s : tie.Start) → Accepts (s .args .count) (lent (s .args .valences .now) (s .args .rings .now)) (s .args .positions .now)
 checked s = s .pre .0
 
 fit : (s : tie.Start) → let a = s .args in
     4 + (length (countsLine (a .count) (a .f) (a .e))
-    + (length (vertexLines (a .count) (a .valences .now) (a .rings .now) (a .positions .now))
-    + length (cornerLines (a .count) (a .valences .now) (a .rings .now) (a .positions .now))))
+    + (length (vertexLines (a .count) (lent (a .valences .now) (a .rings .now)) (a .positions .now))
+    + length (cornerLines (a .count) (lent (a .valences .now) (a .rings .now)) (a .positions .now))))
     ≤ length (a .text .now)
 fit s =
     let a = s .args in
     let p = s .pre .1 in
-    parts-fit (a .count) (a .valences .now) (a .rings .now) (a .positions .now) (a .e) (a .f) (p .0) (p .1 .0) (p .1 .1)
+    parts-fit (a .count) (lent (a .valences .now) (a .rings .now)) (a .positions .now) (a .e) (a .f) (p .0) (p .1 .0) (p .1 .1)
 
 put-word-requires : tie.Need-put-word-requires
 put-word-requires c κs = let h = fit (c .before .before .before .before) in omega arith
@@ -71,7 +72,7 @@ put-faces-requires c κs =
     let m = written-length v in
     let e = k .ends in
     let f = v .ends in
-    (accepted-fit _ _ _ _ (accepted-all _ _ _ _ (checked s)), (checked s .sound, omega arith))
+    (accepted-fit _ _ _ (accepted-all _ _ _ (checked s)), (checked s .sound, omega arith))
 
 same-length : tie.Need-same-length
 same-length c = search needs
@@ -83,7 +84,7 @@ returns c =
     let o = from-counts n in
     let s = from-word o in
     let a = s .args in
-    all-written (a .count) (a .valences .now) (a .rings .now) (a .positions .now) (a .e) (a .f) (s .pre .1 .0) (s .pre .1 .1 .0)
+    all-written (a .count) (lent (a .valences .now) (a .rings .now)) (a .positions .now) (a .e) (a .f) (s .pre .1 .0) (s .pre .1 .1 .0)
     (o .put-word .ensures) (n .put-counts .ensures) (u .put-vertices .ensures) (c .before .before .put-faces .ensures)
 
 pub put-text-spec : {M : Type 1} → statement M

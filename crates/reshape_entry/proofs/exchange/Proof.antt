@@ -28,7 +28,7 @@ returns c =
     let k = c .before .before in
     let t = k .before .before in
     let s = t .before .before .before .before .before in
-    entry-exchanged _ _ _ _ (s .pre .0) _ _ (t .seek .ensures ∙ ap (place _) (t .before .ring-of .ensures .0)) _ (k .replace-at .ensures)
+    entry-exchanged _ _ _ (s .pre .0) _ _ (t .seek .ensures ∙ ap (place _) (t .before .ring-of .ensures .0)) _ (k .replace-at .ensures)
 
 pub exchange-spec : {M : Type 1} → statement M
 exchange-spec =

@@ -41,7 +41,7 @@ returns c =
     let t = k .before .before .before in
     let s = t .before .before .before .before .before .before in
     let e = t .seek .ensures ∙ ap (place _) (t .before .ring-of .ensures .0) in
-    entry-put _ _ _ _ (s .pre .0) _ _ e _ _ (k .insert-at .ensures .1 .0) (k .insert-at .ensures .1 .1)
+    entry-put _ _ _ (s .pre .0) _ _ e _ _ (k .insert-at .ensures .1 .0) (k .insert-at .ensures .1 .1)
 
 pub put-after-spec : {M : Type 1} → statement M
 put-after-spec =

@@ -30,7 +30,7 @@ returns c =
     let k = c .before .before .before .before in
     let t = k .before .before .before in
     let s = t .before .before .before .before .before .before in
-    entry-out _ _ _ _ (s .pre) _ (t .seek .ensures ∙ ap (place _) (t .before .ring-of .ensures .0)) _ _ (k .erase-at .ensures .0) (k .erase-at .ensures .1)
+    entry-out _ _ _ (s .pre) _ (t .seek .ensures ∙ ap (place _) (t .before .ring-of .ensures .0)) _ _ (k .erase-at .ensures .0) (k .erase-at .ensures .1)
 
 pub take-out-spec : {M : Type 1} → statement M
 take-out-spec =

@@ -3,7 +3,7 @@ use mathlib.Core.Path.{refl, sym, _∙_}
 use Prim.Native.Nat.{_*_}
 use borrow.Author.Needs.{needs}
 use lib.Dec.{lit<}
-use Rattle.mesh.proofs.Ints.{self}
+use Rattle.steps.proofs.Ints.{self}
 use Rattle.units.specs.Coordinate.{offset}
 use Rattle.units.proofs.Coordinates.{mean-is, rounded-factor}
 use Rattle.reshape_mean.proofs.mean.Statement.{statement}

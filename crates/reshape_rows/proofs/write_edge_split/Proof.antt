@@ -1,10 +1,9 @@
 -- `write_edge_split` meets its contract. Assumes nothing.
-use mathlib.Core.List.{List}
 use Prim.Native.Nat.{ℕ}
 use native.Mathlib.Omega.{arith}
 use lib.Dec.{lit≤}
 use lib.ListN.{drop}
-use Rattle.rings.specs.Table.{ringOf}
+use Rattle.rings.specs.Table.{Lent, lent, ringOf}
 use Rattle.reshape.specs.Reshape.{edgeRowsOf}
 use Rattle.reshape_rows.proofs.WrittenSofar.{Sofar, none-yet, ready-on, row-on, put-on, exchanged-on}
 use borrow.Author.Needs.{needs}
@@ -30,32 +29,32 @@ from-p c = c .before .before .before .before .before
 
 -- ---- the rows written so far: all but the first k
 
-abbrev Split : tie.Start → ℕ → List ℕ → List ℕ → Type 0
-Split s k vs rs =
+abbrev Split : tie.Start → ℕ → Lent → Type 0
+Split s k t =
     let g = s .args in
-    let old = ringOf (g .valences .now) (g .rings .now) in
-    Sofar (drop k (edgeRowsOf old (g .p) (g .q) (g .a) (g .b) (g .x))) (g .valences .now) (g .rings .now) vs rs
+    let old = ringOf (lent (g .valences .now) (g .rings .now)) in
+    Sofar (drop k (edgeRowsOf old (g .p) (g .q) (g .a) (g .b) (g .x))) (lent (g .valences .now) (g .rings .now)) t
 
-x-written : (c : tie.After-write-ring) → Split (from-x c) 4 (c .write-ring .last .0) (c .write-ring .last .1 .0)
+x-written : (c : tie.After-write-ring) → Split (from-x c) 4 (lent (c .write-ring .last .0) (c .write-ring .last .1 .0))
 x-written c = row-on none-yet (from-x c .pre .1 .row) (lit≤ tt) (c .write-ring .ensures)
 
-b-written : (c : tie.After-put-after) → Split (from-x (from-b c)) 3 (c .put-after .last .0) (c .put-after .last .1 .0)
+b-written : (c : tie.After-put-after) → Split (from-x (from-b c)) 3 (lent (c .put-after .last .0) (c .put-after .last .1 .0))
 b-written c =
     let e = from-x (from-b c) .pre .0 in
     put-on (x-written (from-b c)) (e .at-b) (omega (arith, e .b-lt), tt) _ (c .put-after .ensures)
 
-a-written : (c : tie.After-put-after2) → Split (from-x (from-b (from-a c))) 2 (c .put-after2 .last .0) (c .put-after2 .last .1 .0)
+a-written : (c : tie.After-put-after2) → Split (from-x (from-b (from-a c))) 2 (lent (c .put-after2 .last .0) (c .put-after2 .last .1 .0))
 a-written c =
     let e = from-x (from-b (from-a c)) .pre .0 in
     put-on (b-written (from-a c)) (e .at-a) (e .apart .a-b, (omega (arith, e .a-lt), tt)) _ (c .put-after2 .ensures)
 
-q-written : (c : tie.After-exchange) → Split (from-x (from-b (from-a (from-q c)))) 1 (from-q c .put-after2 .last .0) (c .exchange .last .1 .0)
+q-written : (c : tie.After-exchange) → Split (from-x (from-b (from-a (from-q c)))) 1 (lent (from-q c .put-after2 .last .0) (c .exchange .last .1 .0))
 q-written c =
     let e = from-x (from-b (from-a (from-q c))) .pre .0 in
     exchanged-on (a-written (from-q c)) (e .at-q) (e .apart .q-a, (e .apart .q-b, (omega (arith, e .q-lt), tt))) _ (c .exchange .ensures)
 
 p-written : (c : tie.After-exchange2)
-    → Split (from-x (from-b (from-a (from-q (from-p c))))) 0 (from-q (from-p c) .put-after2 .last .0) (c .exchange2 .last .1 .0)
+    → Split (from-x (from-b (from-a (from-q (from-p c))))) 0 (lent (from-q (from-p c) .put-after2 .last .0) (c .exchange2 .last .1 .0))
 p-written c =
     let e = from-x (from-b (from-a (from-q (from-p c)))) .pre .0 in
     exchanged-on (q-written (from-p c)) (e .at-p) (e .apart .p-q, (e .apart .p-a, (e .apart .p-b, (omega (arith, e .p-lt), tt)))) _ (c .exchange2 .ensures)

@@ -1,10 +1,9 @@
 -- `write_face_split` meets its contract. Assumes nothing.
-use mathlib.Core.List.{List}
 use Prim.Native.Nat.{ℕ}
 use native.Mathlib.Omega.{arith}
 use lib.Dec.{lit≤}
 use lib.ListN.{drop}
-use Rattle.rings.specs.Table.{ringOf}
+use Rattle.rings.specs.Table.{Lent, lent, ringOf}
 use Rattle.reshape.specs.Reshape.{faceRowsOf}
 use Rattle.reshape_rows.proofs.WrittenSofar.{Sofar, none-yet, ready-on, row-on, put-on}
 use borrow.Author.Needs.{needs}
@@ -27,26 +26,26 @@ from-u c = c .before .before .before .before .before .before .before
 
 -- ---- the rows written so far: all but the first k
 
-abbrev Split : tie.Start → ℕ → List ℕ → List ℕ → Type 0
-Split s k vs rs =
+abbrev Split : tie.Start → ℕ → Lent → Type 0
+Split s k t =
     let g = s .args in
-    let old = ringOf (g .valences .now) (g .rings .now) in
-    Sofar (drop k (faceRowsOf old (g .u) (g .v) (g .w) (g .x))) (g .valences .now) (g .rings .now) vs rs
+    let old = ringOf (lent (g .valences .now) (g .rings .now)) in
+    Sofar (drop k (faceRowsOf old (g .u) (g .v) (g .w) (g .x))) (lent (g .valences .now) (g .rings .now)) t
 
-x-written : (c : tie.After-write-ring) → Split (from-x c) 3 (c .write-ring .last .0) (c .write-ring .last .1 .0)
+x-written : (c : tie.After-write-ring) → Split (from-x c) 3 (lent (c .write-ring .last .0) (c .write-ring .last .1 .0))
 x-written c = row-on none-yet (from-x c .pre .1 .row) (lit≤ tt) (c .write-ring .ensures)
 
-w-written : (c : tie.After-put-after) → Split (from-x (from-w c)) 2 (c .put-after .last .0) (c .put-after .last .1 .0)
+w-written : (c : tie.After-put-after) → Split (from-x (from-w c)) 2 (lent (c .put-after .last .0) (c .put-after .last .1 .0))
 w-written c =
     let e = from-x (from-w c) .pre .0 in
     put-on (x-written (from-w c)) (e .at-w) (omega (arith, e .w-lt), tt) _ (c .put-after .ensures)
 
-v-written : (c : tie.After-put-after2) → Split (from-x (from-w (from-v c))) 1 (c .put-after2 .last .0) (c .put-after2 .last .1 .0)
+v-written : (c : tie.After-put-after2) → Split (from-x (from-w (from-v c))) 1 (lent (c .put-after2 .last .0) (c .put-after2 .last .1 .0))
 v-written c =
     let e = from-x (from-w (from-v c)) .pre .0 in
     put-on (w-written (from-v c)) (e .at-v) (e .v-w, (omega (arith, e .v-lt), tt)) _ (c .put-after2 .ensures)
 
-u-written : (c : tie.After-put-after3) → Split (from-x (from-w (from-v (from-u c)))) 0 (c .put-after3 .last .0) (c .put-after3 .last .1 .0)
+u-written : (c : tie.After-put-after3) → Split (from-x (from-w (from-v (from-u c)))) 0 (lent (c .put-after3 .last .0) (c .put-after3 .last .1 .0))
 u-written c =
     let e = from-x (from-w (from-v (from-u c))) .pre .0 in
     put-on (v-written (from-u c)) (e .at-u) (e .u-v, (e .u-w, (omega (arith, e .u-lt), tt))) _ (c .put-after3 .ensures)

@@ -1,9 +1,8 @@
 -- `write_flip` meets its contract. Assumes nothing.
-use mathlib.Core.List.{List}
 use Prim.Native.Nat.{ℕ}
 use native.Mathlib.Omega.{arith}
 use lib.ListN.{drop}
-use Rattle.rings.specs.Table.{ringOf}
+use Rattle.rings.specs.Table.{Lent, lent, ringOf}
 use Rattle.reshape.specs.Reshape.{flipRowsOf}
 use Rattle.reshape_rows.proofs.WrittenSofar.{Sofar, none-yet, ready-on, put-on, out-on}
 use borrow.Author.Needs.{needs}
@@ -26,25 +25,25 @@ from-p c = c .before .before .before .before .before .before .before
 
 -- ---- the rows written so far: all but the first k
 
-abbrev Flipped : tie.Start → ℕ → List ℕ → List ℕ → Type 0
-Flipped s k vs rs =
+abbrev Flipped : tie.Start → ℕ → Lent → Type 0
+Flipped s k t =
     let g = s .args in
-    Sofar (drop k (flipRowsOf (ringOf (g .valences .now) (g .rings .now)) (g .p) (g .q) (g .a) (g .b))) (g .valences .now) (g .rings .now) vs rs
+    Sofar (drop k (flipRowsOf (ringOf (lent (g .valences .now) (g .rings .now))) (g .p) (g .q) (g .a) (g .b))) (lent (g .valences .now) (g .rings .now)) t
 
-b-written : (c : tie.After-put-after) → Flipped (from-b c) 3 (c .put-after .last .0) (c .put-after .last .1 .0)
+b-written : (c : tie.After-put-after) → Flipped (from-b c) 3 (lent (c .put-after .last .0) (c .put-after .last .1 .0))
 b-written c = put-on none-yet (from-b c .pre .at-b) tt _ (c .put-after .ensures)
 
-a-written : (c : tie.After-put-after2) → Flipped (from-b (from-a c)) 2 (c .put-after2 .last .0) (c .put-after2 .last .1 .0)
+a-written : (c : tie.After-put-after2) → Flipped (from-b (from-a c)) 2 (lent (c .put-after2 .last .0) (c .put-after2 .last .1 .0))
 a-written c =
     let e = from-b (from-a c) .pre in
     put-on (b-written (from-a c)) (e .at-a) (e .apart .a-b, tt) _ (c .put-after2 .ensures)
 
-q-written : (c : tie.After-take-out) → Flipped (from-b (from-a (from-q c))) 1 (c .take-out .last .0) (c .take-out .last .1 .0)
+q-written : (c : tie.After-take-out) → Flipped (from-b (from-a (from-q c))) 1 (lent (c .take-out .last .0) (c .take-out .last .1 .0))
 q-written c =
     let e = from-b (from-a (from-q c)) .pre in
     out-on (a-written (from-q c)) (e .at-q) (e .apart .q-a, (e .apart .q-b, tt)) (c .take-out .ensures)
 
-p-written : (c : tie.After-take-out2) → Flipped (from-b (from-a (from-q (from-p c)))) 0 (c .take-out2 .last .0) (c .take-out2 .last .1 .0)
+p-written : (c : tie.After-take-out2) → Flipped (from-b (from-a (from-q (from-p c)))) 0 (lent (c .take-out2 .last .0) (c .take-out2 .last .1 .0))
 p-written c =
     let e = from-b (from-a (from-q (from-p c))) .pre in
     out-on (q-written (from-p c)) (e .at-p) (e .apart .p-q, (e .apart .p-a, (e .apart .p-b, tt))) (c .take-out2 .ensures)

@@ -4,18 +4,19 @@ use mathlib.Core.Path.{_≡_, ap, _∙_}
 use native.Mathlib.Omega.{arith}
 use borrow.Author.Needs.{needs}
 use lib.ListN.{length}
-use Rattle.meshfile.specs.Bytes.{afterAt}
-use Rattle.meshfile.specs.Layout.{isRow}
-use Rattle.meshfile.specs.Judging.{Row}
-use Rattle.meshfile.proofs.Blocks.{put-one}
-use Rattle.meshfile.proofs.Judging.{IsRow, row-is, first-past}
+use Rattle.rings.specs.Table.{lent}
+use Rattle.file_format.specs.Bytes.{afterAt}
+use Rattle.file_format.specs.Layout.{isRow}
+use Rattle.file_format.specs.Judging.{Row}
+use Rattle.file_format.proofs.Blocks.{put-one}
+use Rattle.file_format.proofs.Judging.{IsRow, row-is, first-past}
 use Rattle.file_reading.proofs.RowsRead.{ReadTo, read-none, read-next, read-all, row-of, row-fits}
 use Rattle.file_reading.proofs.rows.read_rows.Statement.{statement}
 use Rattle.file_reading.proofs.rows.read_rows.Tie as tie
 
 abbrev Inv-loop : tie.InvT-loop
 Inv-loop bytes valences₀ rings₀ positions₀ count at₀ v₀ valences rings positions at v =
-    (v ≤ count) × ReadTo bytes valences₀ rings₀ positions₀ valences rings positions at v
+    (v ≤ count) × ReadTo bytes (lent valences₀ rings₀) positions₀ (lent valences rings) positions at v
 
 abbrev μ-loop : tie.MeasureT-loop
 μ-loop bytes valences₀ rings₀ positions₀ count at₀ v₀ valences rings positions at v = count - v
@@ -34,7 +35,7 @@ place-after-requires : tie.Need-place-after-requires Inv-loop μ-loop
 place-after-requires c κs = search needs
 
 loop-holds : tie.Need-loop-holds Inv-loop μ-loop
-loop-holds c = (search needs, read-none _ _ _ _ (c .place-after .ensures ∙ first-past _ (c .before .before .before .before .pre .0 .first)))
+loop-holds c = (search needs, read-none _ _ _ (c .place-after .ensures ∙ first-past _ (c .before .before .before .before .pre .0 .first)))
 
 add-two-at : tie.Need-add-two-at Inv-loop μ-loop
 add-two-at c = let h = fits c in search needs

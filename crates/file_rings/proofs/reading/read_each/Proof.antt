@@ -5,9 +5,9 @@ use native.Mathlib.Omega.{arith}
 use borrow.Author.Needs.{needs}
 use lib.ListN.{length, length-set}
 use Rattle.rings.specs.Table.{gather}
-use Rattle.meshfile.specs.Layout.{neighbourAt}
-use Rattle.meshfile.specs.Blocks.{Put}
-use Rattle.meshfile.proofs.Blocks.{rows-none, rows-next, rows-all}
+use Rattle.file_format.specs.Layout.{neighbourAt}
+use Rattle.file_format.specs.Blocks.{Put}
+use Rattle.file_format.proofs.Blocks.{rows-none, rows-next, rows-all}
 use Rattle.file_rings.proofs.RingRead.{length-neighbours, one-is}
 use Rattle.file_rings.proofs.reading.read_each.Statement.{statement}
 use Rattle.file_rings.proofs.reading.read_each.Tie as tie

@@ -4,9 +4,9 @@ use mathlib.Core.Path.{_≡_, refl, ap, _∙_}
 use native.Mathlib.Omega.{arith}
 use borrow.Author.Needs.{needs}
 use lib.ListN.{length}
-use Rattle.meshfile.specs.Layout.{neighbourAt}
-use Rattle.meshfile.specs.Blocks.{Put, gatherFrom}
-use Rattle.meshfile.proofs.Blocks.{from-none, put-length, put-is, from-next}
+use Rattle.file_format.specs.Layout.{neighbourAt}
+use Rattle.file_format.specs.Blocks.{Put, gatherFrom}
+use Rattle.file_format.proofs.Blocks.{from-none, put-length, put-is, from-next}
 use Rattle.file_rings.proofs.RingRead.{length-part}
 use Rattle.file_rings.proofs.reading.read_fours.Statement.{statement}
 use Rattle.file_rings.proofs.reading.read_fours.Tie as tie

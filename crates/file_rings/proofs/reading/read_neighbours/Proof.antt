@@ -3,8 +3,8 @@ use borrow.Author.Needs.{needs}
 use native.Mathlib.Nat.{add-zero}
 use native.Mathlib.Omega.{arith}
 use mathlib.Core.Path.{refl}
-use Rattle.meshfile.specs.Layout.{neighbourAt}
-use Rattle.meshfile.proofs.Blocks.{by-fours}
+use Rattle.file_format.specs.Layout.{neighbourAt}
+use Rattle.file_format.proofs.Blocks.{by-fours}
 use Rattle.file_rings.proofs.reading.read_neighbours.Statement.{statement}
 use Rattle.file_rings.proofs.reading.read_neighbours.Tie as tie
 

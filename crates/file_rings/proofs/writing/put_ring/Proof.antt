@@ -3,7 +3,7 @@ use borrow.Author.Needs.{needs}
 use native.Mathlib.Omega.{arith}
 use mathlib.Core.Path.{refl}
 use lib.ListN.{length}
-use Rattle.meshfile.proofs.Blocks.{by-fours}
+use Rattle.file_format.proofs.Blocks.{by-fours}
 use Rattle.file_rings.specs.Neighbours.{neighbourBytes}
 use Rattle.file_rings.proofs.writing.put_ring.Statement.{statement}
 use Rattle.file_rings.proofs.writing.put_ring.Tie as tie

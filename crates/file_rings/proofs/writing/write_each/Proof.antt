@@ -5,9 +5,9 @@ use borrow.Author.Needs.{needs}
 use native.Mathlib.Omega.{arith}
 use lib.ListN.{length}
 use Rattle.rings.specs.Table.{gather}
-use Rattle.meshfile.specs.Blocks.{Put}
+use Rattle.file_format.specs.Blocks.{Put}
 use Rattle.file_rings.specs.Neighbours.{neighbourBytes}
-use Rattle.meshfile.proofs.Blocks.{rows-none, rows-next, rows-all}
+use Rattle.file_format.proofs.Blocks.{rows-none, rows-next, rows-all}
 use Rattle.file_rings.proofs.RingWritten.{length-neighbour-bytes}
 use Rattle.file_rings.proofs.writing.write_each.Statement.{statement}
 use Rattle.file_rings.proofs.writing.write_each.Tie as tie

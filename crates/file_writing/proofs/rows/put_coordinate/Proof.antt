@@ -5,8 +5,8 @@ use lib.IntN.{pos}
 use lib.ListN.{getD}
 use mir.Syntax.{w32}
 use mir.ValLaws.{toZ-ofZ}
-use Rattle.meshfile.specs.Bytes.{bytesOf, bitsOf}
-use Rattle.meshfile.proofs.Blocks.{put-is}
+use Rattle.file_format.specs.Bytes.{bytesOf, bitsOf}
+use Rattle.file_format.proofs.Blocks.{put-is}
 use Rattle.file_writing.proofs.rows.put_coordinate.Statement.{statement}
 use Rattle.file_writing.proofs.rows.put_coordinate.Tie as tie
 

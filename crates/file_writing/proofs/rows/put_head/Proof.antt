@@ -1,7 +1,7 @@
 -- `put_head` meets its contract. Assumes nothing.
 use borrow.Author.Needs.{needs}
 use mathlib.Core.Path.{refl}
-use Rattle.meshfile.proofs.Blocks.{then}
+use Rattle.file_format.proofs.Blocks.{then}
 use Rattle.file_writing.proofs.rows.put_head.Statement.{statement}
 use Rattle.file_writing.proofs.rows.put_head.Tie as tie
 

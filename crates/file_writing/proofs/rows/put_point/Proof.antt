@@ -2,7 +2,7 @@
 use borrow.Author.Needs.{needs}
 use native.Mathlib.Omega.{arith}
 use mathlib.Core.Path.{refl}
-use Rattle.meshfile.proofs.Blocks.{then}
+use Rattle.file_format.proofs.Blocks.{then}
 use Rattle.file_writing.proofs.RowsWritten.{put-coordinate}
 use Rattle.file_writing.proofs.rows.put_point.Statement.{statement}
 use Rattle.file_writing.proofs.rows.put_point.Tie as tie

@@ -52,7 +52,7 @@ returns : tie.Need-returns
 returns c =
     let s = c .before .before .before .before .before .before .before .before .before .before .before .before .before .before .before .before .before .before .before .before in
     let r = c .before .before .before .before .before .before .before .before .before .before .before .before .before .before .before .before .ring-of .ensures in
-    (row-put _ _ _ _ (r .0) (c .before .before .before .before .before .before .before .before .before .before .before .before .before .before .put-head .ensures) (c .before .before .before .before .before .before .before .before .before .before .put-point .ensures) (c .before .before .before .before .before .before .put-two .ensures) (c .before .before .put-ring .ensures), ap (λ (k : ℕ). (s .args .at) + (20 + 2 * k)) (r .1))
+    (row-put _ _ _ (r .0) (c .before .before .before .before .before .before .before .before .before .before .before .before .before .before .put-head .ensures) (c .before .before .before .before .before .before .before .before .before .before .put-point .ensures) (c .before .before .before .before .before .before .put-two .ensures) (c .before .before .put-ring .ensures), ap (λ (k : ℕ). (s .args .at) + (20 + 2 * k)) (r .1))
 
 pub put-row-spec : {M : Type 1} → statement M
 put-row-spec =

@@ -3,7 +3,7 @@ use borrow.Author.Needs.{needs}
 use Rattle.gypsumtrot.proofs.files.gt_read.Statement.{statement}
 use Rattle.gypsumtrot.proofs.files.gt_read.Tie as tie
 use Rattle.rings.specs.Paper.{paperAmount}
-use Rattle.crossing.proofs.Crossed.{through}
+use Rattle.c_answers.proofs.Crossed.{through}
 
 read-requires : tie.Need-read-requires
 read-requires c κs = search needs

@@ -3,7 +3,7 @@ use borrow.Author.Needs.{needs}
 use Rattle.gypsumtrot.proofs.files.gt_write.Statement.{statement}
 use Rattle.gypsumtrot.proofs.files.gt_write.Tie as tie
 use Rattle.rings.specs.Paper.{paperAmount}
-use Rattle.crossing.proofs.Crossed.{through}
+use Rattle.c_answers.proofs.Crossed.{through}
 
 write-requires : tie.Need-write-requires
 write-requires c κs = search needs

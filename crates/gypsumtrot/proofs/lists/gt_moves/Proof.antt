@@ -41,39 +41,40 @@ use denote.Triple.Spec.{Meets, tripleOf}
 use denote.Triple.Table.{entered, cited}
 use denote.Triple.Clauses.{ensured, lasts}
 use denote.Triple.Walked.{says, Stays, stay-none-slice, stay-none, gave-slice, walkOf as walkTriple, Walks, ends-at, walked, goes-none-slice, goes-none, goes-gave-slice, walk-meets}
+use Rattle.rings.specs.Table.{lent}
 use Rattle.rings.specs.Paper.{paperAmount}
-use Rattle.plan.specs.Plan.{Fair, walkOf}
-use Rattle.moves.specs.Apply.{applyPositions, applyMap}
-use Rattle.moves.specs.Settle.{firstPlan, settleAnswer, settlePositions, settleMap}
-use Rattle.plan.specs.declared.Plan.{Plan}
-use Rattle.moves.proofs.Settled.{list-fair}
-use Rattle.plan.proofs.Shared.{LentShared, lends-shared, shared-back}
-use Rattle.plan.proofs.Plan as S
-use Rattle.plan.proofs.Plan.Laws as S′
-use Rattle.moves.proofs.call.first_plan as first
-use Rattle.moves.proofs.call.first_plan.Symbol as first-def
-use Rattle.moves.proofs.call.first_plan.Symbol.{name as #first-plan}
-use Rattle.moves.proofs.call.first_plan.Met as first-thm
-use Rattle.crossing.specs.Crossing.{valuePaper}
-use Rattle.move_records.specs.Records.{movesOf, byKinds, recordsAnswer}
-use Rattle.move_records.specs.declared.MoveRecord.{MoveRecord}
-use Rattle.crossing.specs.declared.ValueAnswer.{ValueAnswer}
+use Rattle.move_plan.specs.Plan.{Fair, walkOf}
+use Rattle.move_lists.specs.Apply.{applyPositions, applyMap}
+use Rattle.move_lists.specs.Settle.{firstPlan, settleAnswer, settlePositions, settleMap}
+use Rattle.move_plan.specs.declared.Plan.{Plan}
+use Rattle.move_lists.proofs.Settled.{list-fair}
+use Rattle.move_plan.proofs.Shared.{LentShared, lends-shared, shared-back}
+use Rattle.move_plan.proofs.Plan as S
+use Rattle.move_plan.proofs.Plan.Laws as S′
+use Rattle.move_lists.proofs.call.first_plan as first
+use Rattle.move_lists.proofs.call.first_plan.Symbol as first-def
+use Rattle.move_lists.proofs.call.first_plan.Symbol.{name as #first-plan}
+use Rattle.move_lists.proofs.call.first_plan.Met as first-thm
+use Rattle.c_answers.specs.Crossing.{valuePaper}
+use Rattle.c_moves.specs.Records.{movesOf, byKinds, recordsAnswer}
+use Rattle.c_moves.specs.declared.MoveRecord.{MoveRecord}
+use Rattle.c_answers.specs.declared.ValueAnswer.{ValueAnswer}
 use Rattle.gypsumtrot.proofs.RecordLists.{records-settled}
-use Rattle.move_records.proofs.MoveRecord as T
-use Rattle.crossing.proofs.ValueAnswer as E
-use Rattle.crossing.proofs.ValueAnswer.Laws as E′
-use Rattle.move_records.proofs.walk_records as walk
-use Rattle.move_records.proofs.walk_records.Symbol as walk-def
-use Rattle.move_records.proofs.walk_records.Symbol.{name as #walk-records}
-use Rattle.move_records.proofs.walk_records.Met as walk-thm
+use Rattle.c_moves.proofs.MoveRecord as T
+use Rattle.c_answers.proofs.ValueAnswer as E
+use Rattle.c_answers.proofs.ValueAnswer.Laws as E′
+use Rattle.c_moves.proofs.walk_records as walk
+use Rattle.c_moves.proofs.walk_records.Symbol as walk-def
+use Rattle.c_moves.proofs.walk_records.Symbol.{name as #walk-records}
+use Rattle.c_moves.proofs.walk_records.Met as walk-thm
 use Rattle.gypsumtrot.proofs.lists.settle_records as settle
 use Rattle.gypsumtrot.proofs.lists.settle_records.Symbol as settle-def
 use Rattle.gypsumtrot.proofs.lists.settle_records.Symbol.{name as #settle-records}
 use Rattle.gypsumtrot.proofs.lists.settle_records.Met as settle-thm
-use Rattle.move_records.proofs.by_kinds as kinds
-use Rattle.move_records.proofs.by_kinds.Symbol as kinds-def
-use Rattle.move_records.proofs.by_kinds.Symbol.{name as #by-kinds}
-use Rattle.move_records.proofs.by_kinds.Met as kinds-thm
+use Rattle.c_moves.proofs.by_kinds as kinds
+use Rattle.c_moves.proofs.by_kinds.Symbol as kinds-def
+use Rattle.c_moves.proofs.by_kinds.Symbol.{name as #by-kinds}
+use Rattle.c_moves.proofs.by_kinds.Met as kinds-thm
 use Rattle.gypsumtrot.proofs.lists.gt_moves.Key.{name as #gt-moves}
 use Rattle.gypsumtrot.proofs.lists.gt_moves as f
 use Rattle.gypsumtrot.proofs.lists.gt_moves.Statement as stated
@@ -169,7 +170,7 @@ module _ {M : Type 1} (𝓤 : URA M) (H : Heap 𝓤) (A : Atoms 𝓤) (W : Given
   -- what `settle_records` says of its result and the last lists, of a plan
   abbrev Said : Plan → ValueAnswer → List ℤ → List ℕ → Type 0
   Said s r zp zm =
-      (valuePaper r ≡ paperAmount (settleAnswer s count levels (now xv) (now xr) ps (now xm))) × (zp ≡ settlePositions s count levels (now xv) (now xr) ps (now xm)) × (zm ≡ settleMap s count levels (now xv) (now xr) ps (now xm))
+      (valuePaper r ≡ paperAmount (settleAnswer s count levels (lent (now xv) (now xr)) ps (now xm))) × (zp ≡ settlePositions s count levels (lent (now xv) (now xr)) ps (now xm)) × (zm ≡ settleMap s count levels (lent (now xv) (now xr)) ps (now xm))
 
   -- the list's plan
   abbrev listed : Plan
@@ -178,7 +179,7 @@ module _ {M : Type 1} (𝓤 : URA M) (H : Heap 𝓤) (A : Atoms 𝓤) (W : Given
   -- what the call says of its result and the last lists
   abbrev Applied : ValueAnswer → List ℤ → List ℕ → Type 0
   Applied r zp zm =
-      (valuePaper r ≡ recordsAnswer n levels (now xv) (now xr) ps (now xm) ms) × (zp ≡ applyPositions n levels (now xv) (now xr) ps (now xm) (movesOf ms)) × (zm ≡ applyMap n levels (now xv) (now xr) ps (now xm) (movesOf ms))
+      (valuePaper r ≡ recordsAnswer n levels (lent (now xv) (now xr)) ps (now xm) ms) × (zp ≡ applyPositions n levels (lent (now xv) (now xr)) ps (now xm) (movesOf ms)) × (zm ≡ applyMap n levels (lent (now xv) (now xr)) ps (now xm) (movesOf ms))
 
   -- ---- the call of `first_plan`
   abbrev to-first : First 𝓤 H A mem run .Ghost
@@ -332,7 +333,7 @@ module _ {M : Type 1} (𝓤 : URA M) (H : Heap 𝓤) (A : Atoms 𝓤) (W : Given
         assigns ! (addr ! (from ! (fld ! refl (hop ! (look-in ! 36 (sub ! 0 refl (whole !))) (stop !))))) (from ! (stop !)) (init ! 12 refl (tt, tt)) $
         assigns ! (agg ! (and-then ! (load ! (from ! (stop !)) (look ! 12 refl)) (and-then ! (load ! (from ! (fld ! refl (stop !))) (look-in ! 36 (sub ! 1 refl (whole !)))) (no-more !)))) (from ! (stop !)) (init ! 10 refl (tt, (tt, (record { fits = gm .0 }, tt)))) $
         move ! (0 ∷ 7 ∷ []) $ join ! $ move ! (7 ∷ 0 ∷ []) $ join ! $ move ! (7 ∷ 0 ∷ []) $ join ! $ move ! (4 ∷ 0 ∷ []) $ join ! $ move ! (1 ∷ 0 ∷ []) $ join ! $ move ! (3 ∷ 0 ∷ []) $ join ! $ move ! (3 ∷ 0 ∷ []) $ join ! $
-        use1 W (raw (Settled 𝓤 H A mem run .pre (to-settle s₁ u₁)) ⊛ (‵ OwnV ⊛ ‵ OwnR)) (goes-settle s₁ u₁ is₁ (subst Fair (sym (planned-is e₀ e₁)) (list-fair n levels (now xv) (now xr) ps (now xm) (movesOf ms)))) $ split ! $
+        use1 W (raw (Settled 𝓤 H A mem run .pre (to-settle s₁ u₁)) ⊛ (‵ OwnV ⊛ ‵ OwnR)) (goes-settle s₁ u₁ is₁ (subst Fair (sym (planned-is e₀ e₁)) (list-fair n levels (lent (now xv) (now xr)) ps (now xm) (movesOf ms)))) $ split ! $
         -- [what `settle_records` asks; the valences and the rings; t₄; the list; _17; …]
         calls-at ! fm (Settled 𝓤 H A mem run) known-settle (to-settle s₁ u₁) (and-then ! (load ! (from ! (stop !)) (look ! 20 refl)) (and-then ! (load ! (from ! (stop !)) (look ! 12 refl)) (and-then ! (load ! (from ! (stop !)) (look ! 36 refl)) (and-then ! (load ! (from ! (stop !)) (look ! 34 refl)) (and-then ! (load ! (from ! (stop !)) (look ! 8 refl)) (and-then ! (load ! (from ! (stop !)) (look ! 4 refl)) (and-then ! (load ! (from ! (stop !)) (look ! 26 refl)) (no-more !)))))))) (λ w.
         use1 W (later (some (λ (r : ValueAnswer). (Tokens ⊛ ‵ (E.the-row .own r (w ∷ []))) ⊛ raw (ensured 𝓤 H A settle.ended (settle.clauses 𝓤 H A mem run) κs₁ (args s₁ u₁) tt r)))) (id⊢ 𝓤 _) $ await ! tt $ pick ! (λ r.
@@ -349,7 +350,7 @@ module _ {M : Type 1} (𝓤 : URA M) (H : Heap 𝓤) (A : Atoms 𝓤) (W : Given
         land ! (from ! (stop !)) (init ! 41 refl (LL.lawful E.the-type E′.the-laws 𝓤 H A W .typed t _ is′ .0)) $
         returns ! (look ! 41 refl) $ forget ! 7 refl $ forget ! 9 refl $ forget ! 11 refl $ forget ! 13 refl $ forget ! 15 refl $ forget ! 17 refl $ forget ! 19 refl $ forget ! 21 refl $ forget ! 23 refl $ forget ! 25 refl $ forget ! 27 refl $ forget ! 29 refl $ forget ! 31 refl $ forget ! 33 refl $ forget ! 35 refl $ forget ! 37 refl $ forget ! 39 refl $ forget ! 41 refl $
         move ! (41 ∷ 42 ∷ []) $ free1 ! $ move ! (39 ∷ 40 ∷ []) $ free1 ! $ move ! (37 ∷ 38 ∷ []) $ free1 ! $ move ! (35 ∷ 36 ∷ []) $ free1 ! $ move ! (33 ∷ 34 ∷ []) $ free1 ! $ move ! (31 ∷ 32 ∷ []) $ free1 ! $ move ! (29 ∷ 30 ∷ []) $ free1 ! $ move ! (27 ∷ 28 ∷ []) $ free1 ! $ move ! (25 ∷ 26 ∷ []) $ free1 ! $ move ! (23 ∷ 24 ∷ []) $ free1 ! $ move ! (21 ∷ 22 ∷ []) $ free1 ! $ move ! (19 ∷ 20 ∷ []) $ free1 ! $ move ! (17 ∷ 18 ∷ []) $ free1 ! $ move ! (15 ∷ 16 ∷ []) $ free1 ! $ move ! (13 ∷ 14 ∷ []) $ free1 ! $ move ! (11 ∷ 12 ∷ []) $ free1 ! $ move ! (9 ∷ 10 ∷ []) $ free1 ! $ move ! (7 ∷ 8 ∷ []) $ free1 ! $ free0 ! $
-        split ! $ keep ! (3 ∷ 4 ∷ 6 ∷ 7 ∷ 0 ∷ 2 ∷ []) $ by ! (exits t w′ (ws .1 .1 .1 .1 .0) (ws .1 .1 .1 .1 .1 .0) is′ lp lm (records-settled n levels (now xv) (now xr) ps (now xm) ms (planned-is e₀ e₁) (e₂ .0) (e₂ .1) (e₂ .2) e₃)))))))))))))))))))))))))))))))))))))))))
+        split ! $ keep ! (3 ∷ 4 ∷ 6 ∷ 7 ∷ 0 ∷ 2 ∷ []) $ by ! (exits t w′ (ws .1 .1 .1 .1 .0) (ws .1 .1 .1 .1 .1 .0) is′ lp lm (records-settled n levels (lent (now xv) (now xr)) ps (now xm) ms (planned-is e₀ e₁) (e₂ .0) (e₂ .1) (e₂ .2) e₃)))))))))))))))))))))))))))))))))))))))))
 
 module _ {M : Type 1} (𝓤 : URA M) (H : Heap 𝓤) (A : Atoms 𝓤) (W : Given 𝓤 H A) (mem : Memory → SProp 𝓤) (run : Routine → Fun 𝓤) (𝓣 : Tables 𝓤 H) (known-first : Triple 𝓤 (𝓣 .C #first-plan) (First 𝓤 H A mem run)) (known-walk : Triple 𝓤 (𝓣 .C #walk-records) (Walked 𝓤 H A mem run))
     (known-settle : Triple 𝓤 (𝓣 .C #settle-records) (Settled 𝓤 H A mem run)) (known-kinds : Triple 𝓤 (𝓣 .C #by-kinds) (Told 𝓤 H A mem run)) where
@@ -383,7 +384,7 @@ gt-moves-spec 𝓤 H 𝓜 𝓖 𝓡 =
     entered 𝓤 H (tripleOf 𝓤 H (𝓖 .A) f.signature (f.spec 𝓤 H (𝓖 .A) (𝓜 .mem) (𝓡 .run)))
     (tables 𝓤 H 𝓜 𝓡 code.env .C) (tables 𝓤 H 𝓜 𝓡 code.env .Λ) #gt-moves code.function (code.unfolded 𝓤 H 𝓜 𝓡)
     (meets 𝓤 H (𝓖 .A) (givenOf 𝓤 H 𝓜 𝓖) (𝓜 .mem) (𝓡 .run) (tablesOf 𝓤 H 𝓜 (tables 𝓤 H 𝓜 𝓡 code.env))
-    (cited 𝓤 H (First 𝓤 H (𝓖 .A) (𝓜 .mem) (𝓡 .run)) 𝓜 𝓡 code.env #first-plan first-def.routine code.calls-moves·call·first-plan (first-thm.met 𝓤 H 𝓜 𝓖 𝓡))
-    (cited 𝓤 H (Walked 𝓤 H (𝓖 .A) (𝓜 .mem) (𝓡 .run)) 𝓜 𝓡 code.env #walk-records walk-def.routine code.calls-move-records·walk-records (walk-thm.met 𝓤 H 𝓜 𝓖 𝓡))
+    (cited 𝓤 H (First 𝓤 H (𝓖 .A) (𝓜 .mem) (𝓡 .run)) 𝓜 𝓡 code.env #first-plan first-def.routine code.calls-move-lists·call·first-plan (first-thm.met 𝓤 H 𝓜 𝓖 𝓡))
+    (cited 𝓤 H (Walked 𝓤 H (𝓖 .A) (𝓜 .mem) (𝓡 .run)) 𝓜 𝓡 code.env #walk-records walk-def.routine code.calls-c-moves·walk-records (walk-thm.met 𝓤 H 𝓜 𝓖 𝓡))
     (cited 𝓤 H (Settled 𝓤 H (𝓖 .A) (𝓜 .mem) (𝓡 .run)) 𝓜 𝓡 code.env #settle-records settle-def.routine code.calls-gypsumtrot·lists·settle-records (settle-thm.met 𝓤 H 𝓜 𝓖 𝓡))
-    (cited 𝓤 H (Told 𝓤 H (𝓖 .A) (𝓜 .mem) (𝓡 .run)) 𝓜 𝓡 code.env #by-kinds kinds-def.routine code.calls-move-records·by-kinds (kinds-thm.met 𝓤 H 𝓜 𝓖 𝓡)))
+    (cited 𝓤 H (Told 𝓤 H (𝓖 .A) (𝓜 .mem) (𝓡 .run)) 𝓜 𝓡 code.env #by-kinds kinds-def.routine code.calls-c-moves·by-kinds (kinds-thm.met 𝓤 H 𝓜 𝓖 𝓡)))

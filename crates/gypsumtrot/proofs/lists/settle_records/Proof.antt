@@ -1,6 +1,6 @@
 -- `settle_records` meets its contract. Assumes nothing.
 use Rattle.rings.specs.Paper.{paperAmount}
-use Rattle.crossing.proofs.Crossed.{through}
+use Rattle.c_answers.proofs.Crossed.{through}
 use borrow.Author.Needs.{needs}
 use Rattle.gypsumtrot.proofs.lists.settle_records.Statement.{statement}
 use Rattle.gypsumtrot.proofs.lists.settle_records.Tie as tie

@@ -3,7 +3,7 @@ use borrow.Author.Needs.{needs}
 use Rattle.gypsumtrot.proofs.meshes.gt_check.Statement.{statement}
 use Rattle.gypsumtrot.proofs.meshes.gt_check.Tie as tie
 use Rattle.rings.specs.Paper.{paperCounted}
-use Rattle.crossing.proofs.Crossed.{through}
+use Rattle.c_answers.proofs.Crossed.{through}
 
 check-requires : tie.Need-check-requires
 check-requires c κs = search needs

@@ -3,7 +3,7 @@ use borrow.Author.Needs.{needs}
 use Rattle.gypsumtrot.proofs.meshes.gt_refine.Statement.{statement}
 use Rattle.gypsumtrot.proofs.meshes.gt_refine.Tie as tie
 use Rattle.rings.specs.Paper.{paperCounted}
-use Rattle.crossing.proofs.Crossed.{through}
+use Rattle.c_answers.proofs.Crossed.{through}
 
 refine-requires : tie.Need-refine-requires
 refine-requires c κs = search needs

@@ -3,7 +3,7 @@ use borrow.Author.Needs.{needs}
 use Rattle.gypsumtrot.proofs.reshaping.gt_flip.Statement.{statement}
 use Rattle.gypsumtrot.proofs.reshaping.gt_flip.Tie as tie
 use Rattle.rings.specs.Paper.{paperCounted}
-use Rattle.crossing.proofs.Crossed.{through}
+use Rattle.c_answers.proofs.Crossed.{through}
 
 flip-requires : tie.Need-flip-requires
 flip-requires c κs = search needs

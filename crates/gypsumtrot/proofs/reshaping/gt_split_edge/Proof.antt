@@ -3,7 +3,7 @@ use borrow.Author.Needs.{needs}
 use Rattle.gypsumtrot.proofs.reshaping.gt_split_edge.Statement.{statement}
 use Rattle.gypsumtrot.proofs.reshaping.gt_split_edge.Tie as tie
 use Rattle.rings.specs.Paper.{paperCounted}
-use Rattle.crossing.proofs.Crossed.{through}
+use Rattle.c_answers.proofs.Crossed.{through}
 
 split-edge-requires : tie.Need-split-edge-requires
 split-edge-requires c κs = search needs

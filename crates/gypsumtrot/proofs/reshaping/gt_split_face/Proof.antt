@@ -3,7 +3,7 @@ use borrow.Author.Needs.{needs}
 use Rattle.gypsumtrot.proofs.reshaping.gt_split_face.Statement.{statement}
 use Rattle.gypsumtrot.proofs.reshaping.gt_split_face.Tie as tie
 use Rattle.rings.specs.Paper.{paperCounted}
-use Rattle.crossing.proofs.Crossed.{through}
+use Rattle.c_answers.proofs.Crossed.{through}
 
 split-face-requires : tie.Need-split-face-requires
 split-face-requires c κs = search needs

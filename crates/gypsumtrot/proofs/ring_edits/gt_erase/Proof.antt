@@ -3,7 +3,7 @@ use borrow.Author.Needs.{needs}
 use Rattle.gypsumtrot.proofs.ring_edits.gt_erase.Statement.{statement}
 use Rattle.gypsumtrot.proofs.ring_edits.gt_erase.Tie as tie
 use Rattle.rings.specs.Paper.{paperVerdict}
-use Rattle.crossing.proofs.Crossed.{through}
+use Rattle.c_answers.proofs.Crossed.{through}
 
 erase-requires : tie.Need-erase-requires
 erase-requires c κs = search needs

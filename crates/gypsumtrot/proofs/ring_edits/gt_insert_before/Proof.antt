@@ -3,7 +3,7 @@ use borrow.Author.Needs.{needs}
 use Rattle.gypsumtrot.proofs.ring_edits.gt_insert_before.Statement.{statement}
 use Rattle.gypsumtrot.proofs.ring_edits.gt_insert_before.Tie as tie
 use Rattle.rings.specs.Paper.{paperVerdict}
-use Rattle.crossing.proofs.Crossed.{through}
+use Rattle.c_answers.proofs.Crossed.{through}
 
 insert-before-requires : tie.Need-insert-before-requires
 insert-before-requires c κs = search needs

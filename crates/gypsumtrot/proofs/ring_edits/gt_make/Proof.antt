@@ -3,7 +3,7 @@ use borrow.Author.Needs.{needs}
 use Rattle.gypsumtrot.proofs.ring_edits.gt_make.Statement.{statement}
 use Rattle.gypsumtrot.proofs.ring_edits.gt_make.Tie as tie
 use Rattle.rings.specs.Paper.{paperVerdict}
-use Rattle.crossing.proofs.Crossed.{through}
+use Rattle.c_answers.proofs.Crossed.{through}
 
 make-requires : tie.Need-make-requires
 make-requires c κs = search needs

@@ -3,7 +3,7 @@ use borrow.Author.Needs.{needs}
 use Rattle.gypsumtrot.proofs.ring_queries.gt_contains.Statement.{statement}
 use Rattle.gypsumtrot.proofs.ring_queries.gt_contains.Tie as tie
 use Rattle.ring_query.specs.Paper.{paperAnswer}
-use Rattle.crossing.proofs.Crossed.{through}
+use Rattle.c_answers.proofs.Crossed.{through}
 
 contains-requires : tie.Need-contains-requires
 contains-requires c κs = search needs

@@ -3,7 +3,7 @@ use borrow.Author.Needs.{needs}
 use Rattle.gypsumtrot.proofs.ring_queries.gt_next.Statement.{statement}
 use Rattle.gypsumtrot.proofs.ring_queries.gt_next.Tie as tie
 use Rattle.ring_query.specs.Paper.{paperNeighbour}
-use Rattle.crossing.proofs.Crossed.{through}
+use Rattle.c_answers.proofs.Crossed.{through}
 
 next-requires : tie.Need-next-requires
 next-requires c κs = search needs

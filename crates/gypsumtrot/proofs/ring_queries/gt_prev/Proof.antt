@@ -3,7 +3,7 @@ use borrow.Author.Needs.{needs}
 use Rattle.gypsumtrot.proofs.ring_queries.gt_prev.Statement.{statement}
 use Rattle.gypsumtrot.proofs.ring_queries.gt_prev.Tie as tie
 use Rattle.ring_query.specs.Paper.{paperNeighbour}
-use Rattle.crossing.proofs.Crossed.{through}
+use Rattle.c_answers.proofs.Crossed.{through}
 
 prev-requires : tie.Need-prev-requires
 prev-requires c κs = search needs

@@ -3,7 +3,7 @@ use borrow.Author.Needs.{needs}
 use Rattle.gypsumtrot.proofs.ring_queries.gt_valence.Statement.{statement}
 use Rattle.gypsumtrot.proofs.ring_queries.gt_valence.Tie as tie
 use Rattle.rings.specs.Paper.{paperAmount}
-use Rattle.crossing.proofs.Crossed.{through}
+use Rattle.c_answers.proofs.Crossed.{through}
 
 valence-requires : tie.Need-valence-requires
 valence-requires c κs = search needs

@@ -3,7 +3,7 @@ use borrow.Author.Needs.{needs}
 use Rattle.gypsumtrot.proofs.texts.gt_write_off.Statement.{statement}
 use Rattle.gypsumtrot.proofs.texts.gt_write_off.Tie as tie
 use Rattle.rings.specs.Paper.{paperAmount}
-use Rattle.crossing.proofs.Crossed.{through}
+use Rattle.c_answers.proofs.Crossed.{through}
 
 write-off-requires : tie.Need-write-off-requires
 write-off-requires c κs = search needs

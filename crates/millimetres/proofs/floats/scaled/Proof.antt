@@ -8,12 +8,12 @@ use borrow.Author.Needs.{needs}
 use lib.Pow.{pow-pos}
 use lib.IntN.{subℕ}
 use Rattle.mesh.specs.Limits.{mostUnits}
-use Rattle.mesh.specs.Round.{rounded, roundNat}
-use Rattle.mesh.proofs.Rounding.{roundNat-le}
+use Rattle.steps.specs.Round.{rounded, roundNat}
+use Rattle.steps.proofs.Rounding.{roundNat-le}
 use Rattle.units.specs.Coordinate.{InRange}
+use Rattle.units.proofs.Coordinates.{there}
 use Rattle.millimetres.specs.Millimetres.{signed, toward}
 use Rattle.millimetres.proofs.Signed.{rounded-signed, rounded-in}
-use Rattle.units.proofs.Coordinates.{there}
 use Rattle.millimetres.proofs.FloatsInUnits.{lift, one-is, one-lt, whole-is, whole-even, whole-le}
 use Rattle.millimetres.proofs.floats.scaled.Statement.{statement}
 use Rattle.millimetres.proofs.floats.scaled.Tie as tie

@@ -7,14 +7,14 @@ use lib.Ieee.{Float, binary64, neg, ofBits, toBits}
 use lib.Ieee.Bits.{ofBits-toBits}
 use Rattle.millimetres.specs.Millimetres.{inside, unitsOf, unitsAnswer}
 use Rattle.units.proofs.Coordinates.{there}
-use Rattle.millimetres.specs.declared.UnitsAnswer.the-variants.{Units, TooFar}
+use Rattle.millimetres.specs.declared.UnitsAnswer.the-variants.{Units, ControlCoordinate}
 use Rattle.millimetres.proofs.FloatsInUnits.{inside-yes, inside-low, inside-high, inside-no-nan}
 use Rattle.millimetres.proofs.floats.units_of.Statement.{statement}
 use Rattle.millimetres.proofs.floats.units_of.Tie as tie
 
-by-test : (x : Float) (b : Bool) → inside x ≡ b → unitsAnswer x ≡ cond b (Units (unitsOf x)) TooFar
+by-test : (x : Float) (b : Bool) → inside x ≡ b → unitsAnswer x ≡ cond b (Units (unitsOf x)) ControlCoordinate
 unfolding unitsAnswer
-by-test x b e = ap (λ (t : Bool). cond t (Units (unitsOf x)) TooFar) e
+by-test x b e = ap (λ (t : Bool). cond t (Units (unitsOf x)) ControlCoordinate) e
 
 passed : (c : tie.Then2) → inside (c .before .before .args .x) ≡ true
 unfolding ofBits neg

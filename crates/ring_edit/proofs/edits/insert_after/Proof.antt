@@ -14,7 +14,7 @@ same-length-2 : tie.Need-same-length-2
 same-length-2 c = search needs
 
 returns : tie.Need-returns
-returns c = after-told _ _ _ _ _ _ _ _ _ (c .before .before .before .before .insert-beside .ensures)
+returns c = after-told _ _ _ _ _ _ _ _ (c .before .before .before .before .insert-beside .ensures)
 
 pub insert-after-spec : {M : Type 1} → statement M
 insert-after-spec = tie.close (tie.spec insert-beside-requires same-length same-length-2 returns)

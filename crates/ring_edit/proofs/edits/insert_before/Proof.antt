@@ -14,7 +14,7 @@ same-length-2 : tie.Need-same-length-2
 same-length-2 c = search needs
 
 returns : tie.Need-returns
-returns c = before-told _ _ _ _ _ _ _ _ _ (c .before .before .before .before .insert-beside .ensures)
+returns c = before-told _ _ _ _ _ _ _ _ (c .before .before .before .before .insert-beside .ensures)
 
 pub insert-before-spec : {M : Type 1} → statement M
 insert-before-spec = tie.close (tie.spec insert-beside-requires same-length same-length-2 returns)

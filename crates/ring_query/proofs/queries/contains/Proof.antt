@@ -16,7 +16,7 @@ enum-told : tie.Need-enum-told
 enum-told c = search needs
 
 ring-of-requires : tie.Need-ring-of-requires
-ring-of-requires c κs = called _ _ _ _ (sym (c .enum-told .given .1) ∙ c .before .before .judge-call .ensures) .row
+ring-of-requires c κs = called _ _ _ (sym (c .enum-told .given .1) ∙ c .before .before .judge-call .ensures) .row
 
 is-there-requires : tie.Need-is-there-requires
 is-there-requires c κs = search needs
@@ -25,17 +25,17 @@ returns : tie.Need-returns
 returns c =
     let r = c .before .before in
     let k = r .before in
-    contains-yes _ _ _ _ (sym (k .enum-told .given .1) ∙ k .before .before .judge-call .ensures) _ _ (r .ring-of .ensures .0) _ (c .before .is-there .ensures)
+    contains-yes _ _ _ (sym (k .enum-told .given .1) ∙ k .before .before .judge-call .ensures) _ _ (r .ring-of .ensures .0) _ (c .before .is-there .ensures)
     (c .if1 .taken)
 
 returns-2 : tie.Need-returns-2
-returns-2 c = contains-refused _ _ _ _ _ _ (sym (c .before .r .given .1) ∙ c .before .before .before .judge-call .ensures)
+returns-2 c = contains-refused _ _ _ _ _ (sym (c .before .r .given .1) ∙ c .before .before .before .judge-call .ensures)
 
 returns-3 : tie.Need-returns-3
 returns-3 c =
     let r = c .before .before in
     let k = r .before in
-    contains-no _ _ _ _ (sym (k .enum-told .given .1) ∙ k .before .before .judge-call .ensures) _ _ (r .ring-of .ensures .0) _ (c .before .is-there .ensures)
+    contains-no _ _ _ (sym (k .enum-told .given .1) ∙ k .before .before .judge-call .ensures) _ _ (r .ring-of .ensures .0) _ (c .before .is-there .ensures)
     (c .if1 .left)
 
 pub contains-spec : {M : Type 1} → statement M

@@ -16,7 +16,7 @@ enum-told : tie.Need-enum-told
 enum-told c = search needs
 
 ring-of-requires : tie.Need-ring-of-requires
-ring-of-requires c κs = called _ _ _ _ (sym (c .enum-told .given .1) ∙ c .before .before .judge-call .ensures) .row
+ring-of-requires c κs = called _ _ _ (sym (c .enum-told .given .1) ∙ c .before .before .judge-call .ensures) .row
 
 after-in-requires : tie.Need-after-in-requires
 after-in-requires c κs = search needs
@@ -28,7 +28,7 @@ enum-told-2 : tie.Need-enum-told-2
 enum-told-2 c = search needs
 
 returns : tie.Need-returns
-returns c = next-refused _ _ _ _ _ _ (sym (c .before .r .given .1) ∙ c .before .before .before .judge-call .ensures)
+returns c = next-refused _ _ _ _ _ (sym (c .before .r .given .1) ∙ c .before .before .before .judge-call .ensures)
 
 returns-2 : tie.Need-returns-2
 returns-2 c =
@@ -36,7 +36,7 @@ returns-2 c =
     let a = f .before .before in
     let r = a .before in
     let k = r .before in
-    next-told _ _ _ _ (sym (k .enum-told .given .1) ∙ k .before .before .judge-call .ensures) _ _ (r .ring-of .ensures .0)
+    next-told _ _ _ (sym (k .enum-told .given .1) ∙ k .before .before .judge-call .ensures) _ _ (r .ring-of .ensures .0)
     (sym (f .vertex .given .1) ∙ a .after-in .ensures)
 
 returns-3 : tie.Need-returns-3
@@ -44,7 +44,7 @@ returns-3 c =
     let a = c .before .before in
     let r = a .before in
     let k = r .before in
-    next-missing _ _ _ _ (sym (k .enum-told .given .1) ∙ k .before .before .judge-call .ensures) _ _ (r .ring-of .ensures .0)
+    next-missing _ _ _ (sym (k .enum-told .given .1) ∙ k .before .before .judge-call .ensures) _ _ (r .ring-of .ensures .0)
     (sym (c .enum-told2 .given .1) ∙ a .after-in .ensures)
 
 pub next-spec : {M : Type 1} → statement M

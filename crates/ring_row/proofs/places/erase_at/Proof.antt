@@ -53,7 +53,7 @@ same-length-2 : tie.Need-same-length-2
 same-length-2 c = search needs
 
 returns : tie.Need-returns
-returns c = let k = c .before .before in let s = k .before .before .before .before .before in at-erased _ _ _ (s .pre .0) (s .pre .1 .1) _ (s .pre .1 .0) _ (k .close-up .ensures)
+returns c = let k = c .before .before in let s = k .before .before .before .before .before in at-erased _ _ (s .pre .0) (s .pre .1 .1) _ (s .pre .1 .0) _ (k .close-up .ensures)
 
 pub erase-at-spec : {M : Type 1} → statement M
 erase-at-spec =

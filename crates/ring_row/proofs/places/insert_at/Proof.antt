@@ -14,7 +14,7 @@ cast-n : tie.Need-cast-n
 cast-n c = search needs
 
 returns : tie.Need-returns
-returns c = let s = c .before .before .before .before in at-full _ _ _ (s .pre .0) (s .pre .1 .1 .0) _ _ (c .if1 .taken)
+returns c = let s = c .before .before .before .before in at-full _ _ (s .pre .0) (s .pre .1 .1 .0) _ _ (c .if1 .taken)
 
 mul-start : tie.Need-mul-start
 mul-start c = search needs
@@ -62,7 +62,7 @@ returns-2 : tie.Need-returns-2
 returns-2 c =
     let k = c .before .before in
     let s = k .before .before .before .before .before .before in
-    at-opened _ _ _ (s .pre .0) (s .pre .1 .1 .0) _ _ (s .pre .1 .0) (k .before .before .if1 .left) _ (k .open-up .ensures)
+    at-opened _ _ (s .pre .0) (s .pre .1 .1 .0) _ _ (s .pre .1 .0) (k .before .before .if1 .left) _ (k .open-up .ensures)
 
 pub insert-at-spec : {M : Type 1} → statement M
 insert-at-spec =

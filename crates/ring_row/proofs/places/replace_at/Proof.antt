@@ -41,7 +41,7 @@ same-length : tie.Need-same-length
 same-length c = search needs
 
 returns : tie.Need-returns
-returns c = let k = c .before .before in let s = k .before .before .before .before .before in at-replaced _ _ _ (s .pre .0) (s .pre .1 .1 .0) _ _ _ (k .put-at .ensures)
+returns c = let k = c .before .before in let s = k .before .before .before .before .before in at-replaced _ _ (s .pre .0) (s .pre .1 .1 .0) _ _ _ (k .put-at .ensures)
 
 pub replace-at-spec : {M : Type 1} → statement M
 replace-at-spec =

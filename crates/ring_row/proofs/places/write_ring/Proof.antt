@@ -42,7 +42,7 @@ same-length-2 : tie.Need-same-length-2
 same-length-2 c = search needs
 
 returns : tie.Need-returns
-returns c = let k = c .before .before in row-written _ _ _ _ _ refl (k .before .before .before .before .before .pre .1) _ (k .write .ensures)
+returns c = let k = c .before .before in row-written _ _ _ _ refl (k .before .before .before .before .before .pre .1) _ (k .write .ensures)
 
 pub write-ring-spec : {M : Type 1} → statement M
 write-ring-spec =

@@ -11,7 +11,7 @@ mul-result : tie.Need-mul-result
 mul-result c = search needs
 
 returns-2 : tie.Need-returns-2
-returns-2 c = search short-rest
+returns-2 c = short-rest _ _ (c .if1 .left)
 
 pub is-short-rings-spec : {M : Type 1} → statement M
 is-short-rings-spec = tie.close (tie.spec returns mul-result returns-2)

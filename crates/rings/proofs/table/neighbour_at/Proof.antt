@@ -20,7 +20,7 @@ cast-result : tie.Need-cast-result
 cast-result c = omega (arith, c .shared-slice-known3 .given (c .before .before .before .before .args .i))
 
 returns : tie.Need-returns
-returns c = (ap (λ r. getD r (c .before .before .before .before .args .i) 0) (c .before .ring-of .ensures .0), search (fit-below, c .before .ring-of .ensures .1))
+returns c = (ap (λ r. getD r (c .before .before .before .before .args .i) 0) (c .before .ring-of .ensures .0), search fit-below)
 
 pub neighbour-at-spec : {M : Type 1} → statement M
 neighbour-at-spec =

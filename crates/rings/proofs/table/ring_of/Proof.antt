@@ -34,7 +34,7 @@ part-result-end : tie.Need-part-result-end
 part-result-end c = search needs
 
 returns : tie.Need-returns
-returns c = (row-is _ _ _, ap length (row-is _ _ _) ∙ row-length _ _ _ (c .before .before .pre))
+returns c = (row-is _ _, ap length (row-is _ _) ∙ row-length _ _ (c .before .before .pre))
 
 pub ring-of-spec : {M : Type 1} → statement M
 ring-of-spec =

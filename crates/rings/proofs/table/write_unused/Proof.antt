@@ -2,6 +2,7 @@
 use Prim.Native.Nat.{_+_, _-_, _≤_}
 use mathlib.Core.Path.{_≡_, refl, _∙_}
 use lib.ListN.{length, replicate, length-set}
+use Rattle.mesh.specs.Limits.{nullVertex}
 use Rattle.rings.specs.Table.{put}
 use Rattle.rings.proofs.Blocks.{unused-none, unused-more}
 use native.Mathlib.Omega.{arith}
@@ -9,7 +10,7 @@ use Rattle.rings.proofs.table.write_unused.Statement.{statement}
 use Rattle.rings.proofs.table.write_unused.Tie as tie
 
 abbrev Inv-loop : tie.InvT-loop
-Inv-loop rings₀ row used a k₀ rings k = (used ≤ k) × ((k ≤ 32) × ((length rings ≡ length rings₀) × (rings ≡ put rings₀ (a + used) (replicate (k - used) 65535))))
+Inv-loop rings₀ row used a k₀ rings k = (used ≤ k) × ((k ≤ 32) × ((length rings ≡ length rings₀) × (rings ≡ put rings₀ (a + used) (replicate (k - used) nullVertex))))
 
 abbrev μ-loop : tie.MeasureT-loop
 μ-loop rings₀ row used a k₀ rings k = 32 - k

@@ -4,8 +4,8 @@ use Prim.Native.Nat.{ℕ, _+_, _*_, _≤_}
 use native.Mathlib.Omega.{arith}
 use borrow.Author.Needs.{needs}
 use lib.IntN.{subℕ}
-use Rattle.mesh.proofs.Rounding.{rounded-sub, roundNat-le}
 use Rattle.mesh.specs.Limits.{mostUnits}
+use Rattle.steps.proofs.Rounding.{rounded-sub, roundNat-le}
 use Rattle.units.specs.Coordinate.{InRange, offset}
 use Rattle.units.proofs.Coordinates.{there, down-in}
 use Rattle.units.proofs.points.coordinate.Statement.{statement}

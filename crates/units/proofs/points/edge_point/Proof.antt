@@ -1,7 +1,7 @@
 -- `points::edge_point` meets its contract. Assumes nothing.
 use mathlib.Core.Path.{refl}
 use borrow.Author.Needs.{needs}
-use Rattle.mesh.proofs.Ints.{plus, times}
+use Rattle.steps.proofs.Ints.{plus, times}
 use Rattle.units.specs.Coordinate.{offset}
 use Rattle.units.specs.Points.{edgePoint}
 use Rattle.units.proofs.Coordinates.{from, mean-is}

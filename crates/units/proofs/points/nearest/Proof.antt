@@ -1,6 +1,6 @@
 -- `points::nearest` meets its contract. Assumes nothing.
 use borrow.Author.Needs.{needs}
-use Rattle.mesh.proofs.Rounding.{roundNat-divided}
+use Rattle.steps.proofs.Rounding.{roundNat-divided}
 use Rattle.units.proofs.points.nearest.Statement.{statement}
 use Rattle.units.proofs.points.nearest.Tie as tie
 

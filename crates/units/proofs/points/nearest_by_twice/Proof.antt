@@ -4,8 +4,8 @@ use Prim.Native.Nat.{ℕ, _+_, _-_, _*_, _/_, _%_, _<_}
 use native.Mathlib.Nat.{div-div-eq-div-mul}
 use native.Mathlib.Omega.{arith}
 use borrow.Author.Needs.{needs}
-use Rattle.mesh.specs.Round.{roundNat}
-use Rattle.mesh.proofs.Rounding.{roundNat-divided}
+use Rattle.steps.specs.Round.{roundNat}
+use Rattle.steps.proofs.Rounding.{roundNat-divided}
 use Rattle.units.proofs.points.nearest_by_twice.Statement.{statement}
 use Rattle.units.proofs.points.nearest_by_twice.Tie as tie
 

@@ -11,8 +11,8 @@ use lib.IntN.{ℤ, pos, subℕ, _+ℤ_, _*ℤ_}
 use mir.Syntax.{w32}
 use mir.Val.{toZ, ofZ}
 use Rattle.mesh.specs.Limits.{mostUnits}
-use Rattle.mesh.specs.Round.{Is, rounded}
-use Rattle.mesh.proofs.Ints.{plus, times, self}
+use Rattle.steps.specs.Round.{Is, rounded}
+use Rattle.steps.proofs.Ints.{plus, times, self}
 use Rattle.units.specs.Coordinate.{InRange, offset}
 use Rattle.units.specs.Points.{vertexPoint}
 use Rattle.units.proofs.Coordinates.{from, mean-is, rounded-factor}

@@ -1,6 +1,0 @@
--- Laws of the refresh. Theorems: the marks of a refreshed stack, counted, are its touched points (TouchedMarks); the outcome as a caller needs it (Called).
-pub mod TouchedMarks
-pub mod Called
--- Level after level, and what then stands where.
-pub mod Raised
-pub mod RefreshedPoints

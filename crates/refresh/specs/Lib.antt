@@ -1,2 +1,0 @@
--- What a refresh of all levels relies on and leaves.
-pub mod Stack
