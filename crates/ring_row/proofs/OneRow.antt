@@ -25,7 +25,7 @@ same-editable e a b = record { valence = omega (arith, e .valence); row = omega 
 
 -- ---- what stays
 
--- from the tables vs and rs to vs′ and rs′ only v's valence and row changed
+-- from the tables t to t′ only v's valence and row changed
 pub record OneRow (t : Lent) (v : ℕ) (t′ : Lent) : Type 0 where
   pub valences-long : length (t′ .valences) ≡ length (t .valences)
   pub rings-long : length (t′ .rings) ≡ length (t .rings)
