@@ -1,9 +1,11 @@
 // Answers as they cross the C interface: plain structs.
+#![tactic(auto)]
+
 pub mod answers;
 
 // What the check and refinement answer.
 #[repr(C)]
-#[derive(Drop)]
+#[derive(Clone, Copy)]
 pub struct CountsAnswer {
     pub number: u32,
     pub place: usize,
@@ -14,7 +16,7 @@ pub struct CountsAnswer {
 
 // What every other call answers.
 #[repr(C)]
-#[derive(Drop)]
+#[derive(Clone, Copy)]
 pub struct ValueAnswer {
     pub number: u32,
     pub place: usize,

@@ -1,4 +1,6 @@
 // A list of moves as it crosses the C interface: a table of plain records, worked out into a plan.
+#![tactic(auto)]
+
 ghost use Rattle.std.specs.Prelude.{◌≡◌};
 ghost use Rattle.move_plan.specs.Plan.{step_of, walk_of};
 ghost use Rattle.c_answers.specs.Crossing.{value_paper};
@@ -26,7 +28,7 @@ pub const NO_VERTEX: u32 = 4294967295;
 
 // One move of one control vertex: its kind, and three numbers in millimetres or factors.
 #[repr(C)]
-#[derive(Drop)]
+#[derive(Clone, Copy)]
 pub struct MoveRecord {
     pub vertex: u32,
     pub kind: u32,

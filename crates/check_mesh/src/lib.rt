@@ -1,4 +1,6 @@
 // The check: reasons 2, 1, 4, 5, 6 and 7, each over all vertices before the next.
+#![tactic(auto)]
+
 ghost use Rattle.std.specs.Prelude.{◌≡◌, false, ◌*◌, ◌/◌, ◌≤◌, length, get_or};
 ghost use Rattle.mesh.specs.Limits.{most_count, valence_bound, edge_bound};
 ghost use Rattle.mesh.specs.Search.{sum};

@@ -1,4 +1,6 @@
 // The format of a mesh file: numbers in bytes, the record reader, the layout.
+#![tactic(auto)]
+
 pub mod bytes;
 pub mod layout;
 pub mod records;
@@ -11,7 +13,7 @@ pub const ROW: usize = 2;
 pub const LAST: usize = 3;
 
 // What begins at a place: a whole record, with the place behind it, or one of which bytes are missing.
-#[derive(Drop)]
+#[derive(Clone, Copy)]
 pub enum Found {
     Whole {
         kind: usize,
@@ -22,7 +24,7 @@ pub enum Found {
 }
 
 // How far the rows of a file are as expected: the first that is not, or their number, and where it begins.
-#[derive(Drop)]
+#[derive(Clone, Copy)]
 pub struct Reached {
     pub row: usize,
     pub at: usize,

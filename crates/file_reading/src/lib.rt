@@ -1,4 +1,6 @@
 // Reading a mesh file into the lent tables: judged whole before the first write.
+#![tactic(auto)]
+
 ghost use Rattle.std.specs.Prelude.{◌≡◌};
 ghost use Rattle.rings.specs.Table.{lent};
 ghost use Rattle.file_reading.specs.Read.{read_answer, read_valences, read_rings, read_positions};

@@ -1,4 +1,6 @@
 // Writing the lent tables as a mesh file: judged whole before the first byte.
+#![tactic(auto)]
+
 ghost use Rattle.std.specs.Prelude.{◌≡◌, ◌*◌, ◌≤◌, length};
 ghost use Rattle.mesh.specs.Limits.{most_count};
 ghost use Rattle.mesh.specs.Search.{first};

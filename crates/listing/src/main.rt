@@ -1,4 +1,6 @@
 // The listing program: reads a mesh file from standard input, and prints its level 1 or why it is refused.
+#![tactic(auto)]
+
 use libc::{STDIN_FILENO, STDOUT_FILENO};
 use mesh::limits::{LISTING_BYTES, LISTING_TEXT};
 

@@ -1,4 +1,6 @@
 // The text of the listing program: what it prints for an input.
+#![tactic(auto)]
+
 ghost use Rattle.std.specs.Prelude.{◌≡◌, ◌≤◌, length};
 ghost use Rattle.mesh.specs.Limits.{listing_vertices};
 ghost use Rattle.rings.specs.Table.{lent, put};

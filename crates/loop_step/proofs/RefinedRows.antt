@@ -41,7 +41,7 @@ module _ (M : Mesh) (S : Sound M) where
   -- ---- an old vertex
 
   pub old_place : (v i : ℕ) → v < M.count → i < length (M.ring v) → get_or ((refine M).ring v) i 0 ≡ mid M v (get_or (M.ring v) i 0)
-  old_place v i h k = ap (λ l. get_or l i 0) (R.old_ring M S v h) ∙ get_d_map (mid M v) (M.ring v) i 0 0 k
+  old_place v i h k = ap (λ l. get_or l i 0) (R.old_ring_lem M S v h) ∙ get_d_map (mid M v) (M.ring v) i 0 0 k
 
   -- the new row of v beside the place of u: the new vertices of v and u's two neighbours there
   after_place : (v u : ℕ) → v < M.count → u ∈ M.ring v → get_or ((refine M).ring v) (place_after (length (M.ring v)) (place u (M.ring v))) 0 ≡ mid M v (next (M.ring v) u)
@@ -68,7 +68,7 @@ module _ (M : Mesh) (S : Sound M) where
   new_row p q l h m =
       let g : q < M.count = (S.proper p h).known q m in
       let m' : p ∈ M.ring q = S.mutual' p q h m in
-      R.new_ring M S p q l h m
+      R.new_ring_lem M S p q l h m
       ∙ sym
       (rw (
         before_place p q h m,

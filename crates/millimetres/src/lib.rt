@@ -1,4 +1,6 @@
 // Points in millimetres, and one move of one point.
+#![tactic(auto)]
+
 pub mod floats;
 pub mod moves;
 
@@ -11,7 +13,7 @@ use units::Point;
 pub const MILLIMETRES_IN_UNIT: f64 = 0.0009765625;
 
 // A point in millimetres.
-#[derive(Drop)]
+#[derive(Clone, Copy)]
 pub struct Mm {
     pub x: f64,
     pub y: f64,
@@ -20,7 +22,7 @@ pub struct Mm {
 
 // What a move does to a point: its three numbers take the place of the point's, are added to them,
 // or multiply them.
-#[derive(Drop)]
+#[derive(Clone, Copy)]
 pub enum Change {
     Place(f64, f64, f64),
     Shift(f64, f64, f64),
@@ -28,7 +30,7 @@ pub enum Change {
 }
 
 // What a move answers: where the point is now, or why not (13, 14).
-#[derive(Drop)]
+#[derive(Clone, Copy)]
 pub enum Moved {
     At(Point),
     NotFinite,
@@ -36,7 +38,7 @@ pub enum Moved {
 }
 
 // What a float is in units.
-#[derive(Drop)]
+#[derive(Clone, Copy)]
 pub enum UnitsAnswer {
     Units(i32),
     ControlCoordinate,

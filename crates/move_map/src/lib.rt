@@ -1,4 +1,6 @@
 // The map of touched points: a set of stack vertices in lent 32-bit words.
+#![tactic(auto)]
+
 ghost use Rattle.std.specs.Prelude.{◌≡◌, ◌*◌, ◌/◌, ◌≤◌, ◌<◌, length};
 ghost use Rattle.mesh.specs.Limits.{stack_bound};
 ghost use Rattle.move_map.specs.Map.{marked, NoneFrom, word_count, members, ones_in, including, emptied};

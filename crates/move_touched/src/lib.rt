@@ -1,2 +1,4 @@
 // The touched points of one level: which of the next level depend on the marked ones below.
+#![tactic(auto)]
+
 pub mod marks;

@@ -1,4 +1,6 @@
 // Numbers written as text: each function answers the place behind what it wrote.
+#![tactic(auto)]
+
 ghost use Rattle.std.specs.Prelude.{◌≡◌, [], ◌∷◌, ◌+◌, ◌<◌, ◌≤◌, pos, length, get_or};
 ghost use Rattle.file_format.specs.Blocks.{Put};
 ghost use Rattle.file_format.specs.Bytes.{coordinate_of};

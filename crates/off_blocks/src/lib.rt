@@ -1,4 +1,6 @@
 // The shape of a block: how many rows it has, and how wide they are in the next one.
+#![tactic(auto)]
+
 ghost use Rattle.std.specs.Prelude.{◌<◌};
 ghost use Rattle.off_blocks.specs.Blocks.{places, Width, Block};
 

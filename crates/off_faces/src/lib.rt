@@ -1,4 +1,6 @@
 // The faces of a mesh, written in ascending order: for each vertex the faces of which it is the smallest corner.
+#![tactic(auto)]
+
 ghost use Rattle.std.specs.Prelude.{◌+◌, ◌≤◌, ◌<◌, length};
 ghost use Rattle.mesh.specs.Mesh.{Sound};
 ghost use Rattle.rings.specs.Table.{lent, rows};

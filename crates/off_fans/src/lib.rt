@@ -1,4 +1,6 @@
 // What is kept of the faces at some vertices while they are judged: for each, what comes before it and behind it in its faces.
+#![tactic(auto)]
+
 ghost use Rattle.std.specs.Prelude.{◌≡◌, ◌+◌, ◌*◌, ◌≤◌, ◌<◌, length, get_or, take, drop};
 ghost use Rattle.mesh.specs.Limits.{place_bound};
 ghost use Rattle.off_fans.specs.Rows.{Noted, Room, Low, NotedIn, Cleared};

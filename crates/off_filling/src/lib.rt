@@ -1,4 +1,6 @@
 // The rings of a text that was judged, written in blocks, each by one pass over the faces.
+#![tactic(auto)]
+
 ghost use Rattle.std.specs.Prelude.{◌≡◌, ◌+◌, ◌*◌, ◌≤◌, ◌<◌, length};
 ghost use Rattle.mesh.specs.Limits.{most_count, most_valence};
 ghost use Rattle.mesh.specs.Search.{first as least};
@@ -19,7 +21,7 @@ use off_walk::{follow, smallest_of};
 use rings::table::write_unused;
 
 // What is known behind a block: the vertex reached, and the width of the next rows.
-#[derive(Drop)]
+#[derive(Clone, Copy)]
 struct Step {
     at: usize,
     width: usize,

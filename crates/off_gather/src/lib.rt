@@ -1,4 +1,6 @@
 // The faces of a text, gathered for some vertices at a time: for each, what comes before it and behind it in its faces, in their order.
+#![tactic(auto)]
+
 ghost use Rattle.std.specs.Prelude.{◌≡◌, true, ◌+◌};
 ghost use Rattle.off_text.specs.Layout.{is_face, face_line_at};
 ghost use Rattle.off_fans.specs.Rows.{Room};
@@ -9,7 +11,7 @@ use off_fans::{clear, note_in};
 use off_known::read_number;
 
 // The corners of a face, and where the next line begins.
-#[derive(Drop)]
+#[derive(Clone, Copy)]
 struct Corners {
     a: usize,
     b: usize,

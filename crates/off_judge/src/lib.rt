@@ -1,5 +1,7 @@
 // Reasons 21 and 4: the vertices of a text judged in blocks, each by one pass over the faces. Where a vertex has more faces than its row is wide,
 // the next block begins with it, in wider rows.
+#![tactic(auto)]
+
 ghost use Rattle.std.specs.Prelude.{◌≡◌, ◌+◌, ◌≤◌, ◌<◌, length};
 ghost use Rattle.mesh.specs.Search.{first as least};
 ghost use Rattle.off_text.specs.Layout.{text_count, text_faces};
@@ -15,14 +17,14 @@ use off_gather::gather_faces;
 use off_walk::closes;
 
 // The first vertex whose faces do not close, and the first with an unfit valence; each the number of vertices where there is none.
-#[derive(Drop)]
+#[derive(Clone, Copy)]
 pub struct Faults {
     pub opens: usize,
     pub unfit: usize,
 }
 
 // What is known behind a block: the vertex reached, the width of the next rows, the first unfit vertex, and whether the vertex reached does not close.
-#[derive(Drop)]
+#[derive(Clone, Copy)]
 struct Step {
     at: usize,
     width: usize,

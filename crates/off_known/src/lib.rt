@@ -1,4 +1,6 @@
 // Numbers read again from a text that was judged: a byte below the digits ends each of them.
+#![tactic(auto)]
+
 ghost use Rattle.std.specs.Prelude.{◌≡◌};
 ghost use Rattle.off_numbers.specs.Text.{value_at, after_at, unit_at, after_unit};
 ghost use Rattle.off_numbers.specs.Scanned.{NumberThere, UnitThere};
@@ -7,14 +9,14 @@ use file_format::bytes::coordinate_of;
 use off_numbers::{MINUS, WHOLE, ZERO};
 
 // A number and the place behind the byte that follows it.
-#[derive(Drop)]
+#[derive(Clone, Copy)]
 pub struct Read {
     pub value: usize,
     pub next: usize,
 }
 
 // Units and the place behind the byte that follows them.
-#[derive(Drop)]
+#[derive(Clone, Copy)]
 pub struct UnitRead {
     pub value: i32,
     pub next: usize,

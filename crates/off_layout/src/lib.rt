@@ -1,4 +1,6 @@
 // The lines of a text, judged one after the other: reason 20.
+#![tactic(auto)]
+
 ghost use Rattle.std.specs.Prelude.{◌≡◌, ◌≤◌, length};
 ghost use Rattle.off_rings.specs.Faces.{bad_face};
 ghost use Rattle.off_text.specs.Layout.{is_word, text_count, vertex_at, face_line_at};
@@ -16,7 +18,7 @@ const NEWLINE: usize = 10;
 const COUNTS: usize = 4;
 
 // The second line: V, F, and where the next one begins; or something else.
-#[derive(Drop)]
+#[derive(Clone, Copy)]
 pub enum Head {
     Of {
         count: usize,
@@ -27,7 +29,7 @@ pub enum Head {
 }
 
 // A text that is as it should be: V, F, and where the lines of the vertices and of the faces begin; or the refusal.
-#[derive(Drop)]
+#[derive(Clone, Copy)]
 pub enum Text {
     Whole {
         count: usize,
@@ -39,7 +41,7 @@ pub enum Text {
 }
 
 // The first of some lines that is not as it should be, or their number, and where it begins.
-#[derive(Drop)]
+#[derive(Clone, Copy)]
 pub struct Reached {
     pub line: usize,
     pub at: usize,

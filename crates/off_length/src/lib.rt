@@ -1,4 +1,6 @@
 // How many bytes the text of a mesh takes.
+#![tactic(auto)]
+
 ghost use Rattle.std.specs.Prelude.{◌≡◌, ◌+◌, ◌*◌, ◌≤◌, length};
 ghost use Rattle.mesh.specs.Limits.{most_count};
 ghost use Rattle.off_length.specs.Length.{point_length, points_length, corners_length, text_length};

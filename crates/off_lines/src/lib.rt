@@ -1,4 +1,6 @@
 // The lines of a face list: each function answers the place behind what it wrote.
+#![tactic(auto)]
+
 ghost use Rattle.std.specs.Prelude.{◌+◌, ◌*◌, ◌≤◌, length};
 ghost use Rattle.rings.specs.Table.{gather};
 ghost use Rattle.file_format.specs.Blocks.{Put};

@@ -1,4 +1,6 @@
 // Numbers in a text that is judged: each is taken only as the subset has it.
+#![tactic(auto)]
+
 ghost use Rattle.std.specs.Prelude.{◌≡◌, ◌&&◌, ◌+◌, ◌≤◌, ◌<◌, leb, length};
 ghost use Rattle.off_numbers.specs.Text.{byte_at, padded, number_at};
 ghost use Rattle.off_numbers.specs.Scanned.{Digits};
@@ -15,14 +17,14 @@ pub const MINUS: usize = 45;
 pub const WHOLE: usize = 4294967296;
 
 // A number, and the place behind the byte that follows it; or something else.
-#[derive(Drop)]
+#[derive(Clone, Copy)]
 pub enum Number {
     Of { value: usize, next: usize },
     Bad,
 }
 
 // A row of digits: how many there are, and their value.
-#[derive(Drop)]
+#[derive(Clone, Copy)]
 struct Run {
     count: usize,
     value: usize,

@@ -1,4 +1,6 @@
 // The points of a text whose lines are as they should be: reason 7, and the points written.
+#![tactic(auto)]
+
 ghost use Rattle.std.specs.Prelude.{◌≡◌, ◌+◌, ◌*◌, ◌≤◌, length};
 ghost use Rattle.mesh.specs.Search.{first};
 ghost use Rattle.rings.specs.Table.{point_rows};
@@ -11,7 +13,7 @@ use check_mesh::positions::is_beyond;
 use off_known::read_unit;
 
 // A point, and where the next line begins.
-#[derive(Drop)]
+#[derive(Clone, Copy)]
 struct Line {
     x: i32,
     y: i32,
@@ -20,14 +22,14 @@ struct Line {
 }
 
 // Whether a coordinate is beyond the range, and where the next line begins.
-#[derive(Drop)]
+#[derive(Clone, Copy)]
 struct Far {
     far: bool,
     next: usize,
 }
 
 // The point of vertex v, whose line begins at a place.
-fn point_at_lem(text: &[u8], at: usize, v: usize) -> Line
+fn point_at(text: &[u8], at: usize, v: usize) -> Line
     requires { VertexLine text.now v at }
     ensures { PointRead text.now v result.x result.y result.z result.next }
 {
@@ -48,7 +50,7 @@ fn far_at(text: &[u8], at: usize, v: usize) -> Far
     ensures far_value { result.far ≡ text_beyond text.now v }
     ensures next_value { result.next ≡ vertex_at text.now (v + 1) }
 {
-    let line = point_at_lem(text, at, v);
+    let line = point_at(text, at, v);
     let next = line.next;
     if is_beyond(line.x) {
         return Far {
@@ -93,7 +95,7 @@ fn fill_point(text: &[u8], at: usize, positions: &mut [i32], v: usize) -> usize
     ensures put { Put positions.old (v * 3) (point_row text.now v) positions.new }
     ensures value { result ≡ vertex_at text.now (v + 1) }
 {
-    let line = point_at_lem(text, at, v);
+    let line = point_at(text, at, v);
     let x = line.x;
     let y = line.y;
     let z = line.z;

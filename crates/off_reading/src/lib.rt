@@ -1,4 +1,6 @@
 // Reading a face list into the lent tables: judged whole before the first write.
+#![tactic(auto)]
+
 ghost use Rattle.std.specs.Prelude.{◌≡◌};
 ghost use Rattle.rings.specs.Table.{lent, put, valence_rows, ring_rows, point_rows};
 ghost use Rattle.rings.specs.Verdict.{after};

@@ -1,4 +1,6 @@
 // Units in a text that is judged: taken only as the subset has them.
+#![tactic(auto)]
+
 ghost use Rattle.std.specs.Prelude.{◌≡◌, ◌≤◌, ◌<◌, length};
 ghost use Rattle.off_units.specs.Past.{past_number, past_unit};
 
@@ -8,7 +10,7 @@ use off_numbers::{MINUS, Number, byte_on, number_at};
 const POSITIVES: usize = 2147483648;
 
 // Where a text goes on behind what is expected at a place; or something else stands there.
-#[derive(Drop)]
+#[derive(Clone, Copy)]
 pub enum Past {
     To(usize),
     Bad,

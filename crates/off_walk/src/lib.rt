@@ -1,4 +1,6 @@
 // The ring of one vertex from two lists, what comes before it and behind it in its faces: where the ring begins, what follows, and whether it closes.
+#![tactic(auto)]
+
 ghost use Rattle.std.specs.Prelude.{◌≡◌, length};
 ghost use Rattle.off_rings.specs.Fans.{follower, smallest, fan_closes};
 

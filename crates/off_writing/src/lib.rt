@@ -1,4 +1,6 @@
 // Writing the lent tables as a face list: judged whole before the first byte.
+#![tactic(auto)]
+
 ghost use Rattle.std.specs.Prelude.{◌≡◌, ◌≤◌, length};
 ghost use Rattle.mesh.specs.Mesh.{edges, faces};
 ghost use Rattle.rings.specs.Table.{lent, rows, coordinate_at};

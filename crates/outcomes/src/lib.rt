@@ -1,1 +1,2 @@
 // What the calls promise settles everything they answer and leave. No code.
+#![tactic(auto)]

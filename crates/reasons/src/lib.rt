@@ -1,4 +1,6 @@
 // The number and the place of a refusal, as document 01's table and document 02's orders have them.
+#![tactic(auto)]
+
 ghost use Rattle.std.specs.Prelude.{◌≡◌};
 ghost use Rattle.rings.specs.Refusal.{number_of, place_of};
 

@@ -1,4 +1,6 @@
 // What a split and a flip of an edge judge: the check, 3, 18 and 16, and then 19 or what a new vertex needs.
+#![tactic(auto)]
+
 ghost use Rattle.std.specs.Prelude.{◌≡◌, min, max};
 ghost use Rattle.rings.specs.Table.{lent, rows};
 ghost use Rattle.reshape.specs.Reshape.{cannot_flip};
@@ -15,7 +17,7 @@ use rings::table::ring_of;
 use rings::{Refusal, Verdict};
 
 // An edge that may be edited, the lesser end first, with the vertices beside it; or why there is none.
-#[derive(Drop)]
+#[derive(Clone, Copy)]
 pub enum JudgedEdge {
     Edge {
         p: usize,

@@ -1,4 +1,6 @@
 // One entry of v's ring put in, taken out or exchanged, beside an entry that is known to be there.
+#![tactic(auto)]
+
 ghost use Rattle.std.specs.Prelude.{true, ◌≡◌, ◌<◌};
 ghost use Rattle.mesh.specs.Edits.{erase, replace, insert_after};
 ghost use Rattle.mesh.specs.Limits.{null_vertex};

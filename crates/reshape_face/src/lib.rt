@@ -1,4 +1,6 @@
 // What a split of a face judges: the check, 3, 18 and 16, and then what a new vertex needs.
+#![tactic(auto)]
+
 ghost use Rattle.std.specs.Prelude.{◌≡◌};
 ghost use Rattle.rings.specs.Table.{lent};
 ghost use Rattle.rings.specs.declared.Verdict.TheVariants.{Accepted};
@@ -14,7 +16,7 @@ use rings::table::ring_of;
 use rings::{Refusal, Verdict};
 
 // A face that may be edited, from its smallest corner on; or why there is none.
-#[derive(Drop)]
+#[derive(Clone, Copy)]
 pub enum JudgedFace {
     Face { u: usize, v: usize, w: usize },
     Refused(Refusal),

@@ -1,4 +1,6 @@
 // The point at the mean of some vertices, where a split puts its new one.
+#![tactic(auto)]
+
 ghost use Rattle.std.specs.Prelude.{◌≡◌, ◌+◌, ◌*◌, ◌≤◌, ◌<◌, length};
 ghost use Rattle.std.proofs.Math.IntN.{sub_ℕ};
 ghost use Rattle.mesh.specs.Limits.{most_units, most_valence, most_vertices};

@@ -1,4 +1,6 @@
 // Room for one entry more in a ring, and for one vertex more in the tables.
+#![tactic(auto)]
+
 ghost use Rattle.std.specs.Prelude.{◌≡◌, ◌<◌, leb, length, get_or};
 ghost use Rattle.mesh.specs.Limits.{most_valence};
 ghost use Rattle.rings.specs.Table.{lent};

@@ -1,4 +1,6 @@
 // The rows that an edit of the mesh writes once it is judged, one after the other.
+#![tactic(auto)]
+
 ghost use Rattle.std.specs.Prelude.{◌≡◌};
 ghost use Rattle.mesh.specs.Limits.{most_count};
 ghost use Rattle.rings.specs.Table.{lent, ring_of};

@@ -1,4 +1,6 @@
 // The split of a face.
+#![tactic(auto)]
+
 ghost use Rattle.std.specs.Prelude.{◌≡◌};
 ghost use Rattle.rings.specs.Table.{lent};
 ghost use Rattle.reshape_tables.specs.Calls.{face_splitting, reshape_answer, reshaped_valences, reshaped_rings, reshaped_positions};

@@ -1,4 +1,6 @@
 // What stands after and before an entry of a lent ring, with its place, or absence by name.
+#![tactic(auto)]
+
 ghost use Rattle.std.specs.Prelude.{◌≡◌};
 ghost use Rattle.ring_beside.specs.Beside.{after_in, before_in};
 
@@ -6,7 +8,7 @@ use mesh::limits::Vertex;
 use rings::ring::{place_after, place_before, seek};
 
 // A vertex and the place in the ring where it stands, or that there is none.
-#[derive(Drop)]
+#[derive(Clone, Copy)]
 pub enum Beside {
     At { vertex: Vertex, place: usize },
     Absent,

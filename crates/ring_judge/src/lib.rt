@@ -1,2 +1,4 @@
 // What the ring calls judge.
+#![tactic(auto)]
+
 pub mod judge;

@@ -1,11 +1,13 @@
 // The queries of one vertex's ring in the lent tables.
+#![tactic(auto)]
+
 pub mod queries;
 
 use mesh::limits::Vertex;
 use rings::Refusal;
 
 // Is x there?
-#[derive(Drop)]
+#[derive(Clone, Copy)]
 pub enum Answer {
     Yes,
     No,
@@ -13,7 +15,7 @@ pub enum Answer {
 }
 
 // Which vertex is next to x?
-#[derive(Drop)]
+#[derive(Clone, Copy)]
 pub enum Neighbour {
     Vertex(Vertex),
     Missing,

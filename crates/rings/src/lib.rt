@@ -1,9 +1,11 @@
 // Ring tables: the lent tables and their rows, one ring, and the answers that every call gives.
+#![tactic(auto)]
+
 pub mod ring;
 pub mod table;
 
 // Why a call was refused; a case with a number carries the place.
-#[derive(Drop)]
+#[derive(Clone, Copy)]
 pub enum Refusal {
     TableTooShort,
     VertexCount,
@@ -29,21 +31,21 @@ pub enum Refusal {
 }
 
 // What a ring edit answers.
-#[derive(Drop)]
+#[derive(Clone, Copy)]
 pub enum Verdict {
     Accepted,
     Refused(Refusal),
 }
 
 // What the check and refinement answer.
-#[derive(Drop)]
+#[derive(Clone, Copy)]
 pub enum Counted {
     Counts { v: usize, e: usize, f: usize },
     Refused(Refusal),
 }
 
 // What a call answers that gives one number.
-#[derive(Drop)]
+#[derive(Clone, Copy)]
 pub enum Amount {
     Of(usize),
     Refused(Refusal),

@@ -5,7 +5,7 @@ ghost use Rattle.steps.specs.Sizes.{closed_sizes};
 ghost use Rattle.stack_judge.specs.LevelAt.{level_at, above_level, SmallLevel};
 
 // How many stack vertices stand before the level, and its V, E and F.
-#[derive(Drop)]
+#[derive(Clone, Copy)]
 pub struct Level {
     pub start: usize,
     pub vertices: usize,

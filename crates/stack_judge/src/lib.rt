@@ -1,4 +1,6 @@
 // A stack's sizes, worked out from V and E of level 0 alone, and its judgement: reason 8, the check, reasons 9 and 10.
+#![tactic(auto)]
+
 ghost use Rattle.std.specs.Prelude.{◌≡◌, suc, ◌≤◌};
 ghost use Rattle.mesh.specs.Limits.{most_count, most_levels, edge_bound};
 ghost use Rattle.mesh.specs.Search.{first};

@@ -101,7 +101,7 @@ module _ (n levels : ℕ) (t : Lent) (ps : List ℤ) (a : AcceptsStack n levels 
 
     most : (v : ℕ) → v < size k → get_or vpart v 0 ≤ 32
     most v h =
-        let e = get_or-drop (sum size k) vk v 0 ∙ T.valence_at n levels t ps a k (omega arith) k v (omega arith) h in
+        let e = get_or-drop (sum size k) vk v 0 ∙ T.valence_at_lem n levels t ps a k (omega arith) k v (omega arith) h in
         let m : length ((level M k).ring v) ≤ 32 = ((level_sound M S k).proper v h).short in
         omega arith
 

@@ -64,13 +64,13 @@ module _ (n levels : ℕ) (t : Lent) (ps : List ℤ) (accepted : Accepted ≡ st
 
   module _ (k x : ℕ) (l : k ≤ levels) (h : x < (level M k).count) where
     pub valence_is_refined : get_or after_valences (start k + x) 0 ≡ length ((level M k).ring x)
-    valence_is_refined = rw (valences_are, begins k) (T.valence_at n levels t ps a levels (omega arith) k x l h)
+    valence_is_refined = rw (valences_are, begins k) (T.valence_at_lem n levels t ps a levels (omega arith) k x l h)
 
     pub ring_is_refined : ring_of (lent after_valences after_rings) (start k + x) ≡ (level M k).ring x
-    ring_is_refined = rw (valences_are, rings_are, begins k) (T.ring_at n levels t ps a levels (omega arith) k x l h)
+    ring_is_refined = rw (valences_are, rings_are, begins k) (T.ring_at_lem n levels t ps a levels (omega arith) k x l h)
 
     pub point_is_refined : (axis : ℕ) → axis < 3 → coordinate_at after_positions axis (start k + x) ≡ refined (loop M) (coordinate_at ps axis) k x
-    point_is_refined axis b = rw (positions_are, begins k) (T.coordinate_at n levels t ps a levels (omega arith) axis b k x l h)
+    point_is_refined axis b = rw (positions_are, begins k) (T.coordinate_at_lem n levels t ps a levels (omega arith) axis b k x l h)
 
   pub unused_places_are_null : (k x : ℕ) → k < levels → x < (level M (suc k)).count → take 32 (drop ((start (suc k) + x) * 32) after_rings) ≡ padded ((level M (suc k)).ring x)
   unused_places_are_null k x l h = rw (rings_are, begins (suc k)) (T.written_row n levels t ps a levels (omega arith) k x l h)

@@ -1,4 +1,6 @@
 // The whole refinement, in the lent tables.
+#![tactic(auto)]
+
 ghost use Rattle.std.specs.Prelude.{◌≡◌};
 ghost use Rattle.rings.specs.Table.{lent};
 ghost use Rattle.stack_refine.specs.Refinement.{refine_answer, refine_valences, refine_rings, refine_positions};

@@ -37,7 +37,7 @@ module _ {n : ℕ} {t : Lent} (r : Ready n t) where
   module _ {p : ℕ} (h : p < n) where
     pub old_is : (refine M).ring p ≡ old_ring M p
     unfolding rows old_ring
-    old_is = R.old_ring M r.sound p h
+    old_is = R.old_ring_lem M r.sound p h
 
     pub want_length : length ((refine M).ring p) ≡ valence_at t p
     want_length = ap length old_is ∙ old_length r h
@@ -89,7 +89,7 @@ module _ {n : ℕ} {t : Lent} (r : Ready n t) where
 
     pub new_is : (refine M).ring x ≡ new_ring M p q
     unfolding rows new_ring
-    new_is = ap (refine M).ring e ∙ R.new_ring M r.sound p q o h edge_there ∙ rw (H.prev_next M r.sound p q h edge_there)
+    new_is = ap (refine M).ring e ∙ R.new_ring_lem M r.sound p q o h edge_there ∙ rw (H.prev_next M r.sound p q h edge_there)
 
     pub new_length : length ((refine M).ring x) ≡ 6
     unfolding new_ring

@@ -1,4 +1,6 @@
 // Coordinates in units, and the two formulas of refinement.
+#![tactic(auto)]
+
 pub mod points;
 
 // What the crates above call.
@@ -9,7 +11,7 @@ pub use points::{biased, coordinate, edge_point, nearest, vertex_point};
 pub const OFFSET: u64 = 1048576;
 
 // A point in units.
-#[derive(Drop)]
+#[derive(Clone, Copy)]
 pub struct Point {
     pub x: i32,
     pub y: i32,

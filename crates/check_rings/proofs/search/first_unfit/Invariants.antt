@@ -1,0 +1,11 @@
+use Prim.Native.Nat.{◌≤◌, ◌-◌}
+use Rattle.mesh.proofs.First.{Clear}
+use Rattle.rings.specs.Table.{lent}
+use Rattle.rings.specs.Check.{unfit_row}
+use Rattle.check_rings.proofs.search.first_unfit.Given as goal
+
+abbrev pub invariant-loop-v : goal.invariant-loop-v
+invariant-loop-v l = (l.v ≤ l.count) × Clear (unfit_row l.count (lent l.valences l.rings)) l.v
+
+abbrev pub decreases-loop-v : goal.decreases-loop-v
+decreases-loop-v l = l.count - l.v

@@ -1,0 +1,10 @@
+use Prim.Native.Nat.{◌≤◌, ◌-◌}
+use Rattle.mesh.proofs.First.{Clear}
+use Rattle.off_judge.specs.Judging.{stops}
+use Rattle.off_judge.proofs.stop_row.Given as goal
+
+abbrev pub invariant-loop-j : goal.invariant-loop-j
+invariant-loop-j l = (l.j ≤ l.rows) × Clear (stops l.text l.width l.first) l.j
+
+abbrev pub decreases-loop-j : goal.decreases-loop-j
+decreases-loop-j l = l.rows - l.j
