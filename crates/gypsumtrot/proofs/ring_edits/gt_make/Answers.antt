@@ -1,0 +1,8 @@
+-- `gt_make` meets its contract. Assumes nothing.
+use Rattle.rings.specs.Paper.{paper_verdict}
+use Rattle.c_answers.proofs.Crossed.{through}
+use Rattle.gypsumtrot.proofs.ring_edits.gt_make.Goals as goal
+
+pub returns : goal.returns
+returns c =
+    record { result_value = through paper_verdict c.of_verdict.ensures c.make.ensures.value; valences_after = c.make.ensures.valences_after; rings_after = c.make.ensures.rings_after }

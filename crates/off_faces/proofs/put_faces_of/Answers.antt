@@ -1,0 +1,42 @@
+-- `put_faces_of` meets its contract. The loop meets the entries over a by ascending number. Assumes nothing.
+use Prim.Native.Nat.{◌-◌}
+use mathlib.Core.Path.{ap}
+use mathlib.Core.Logic.{⊎_elim}
+use borrow.Author.Rules.{rules}
+use native.Mathlib.Omega.{arith}
+use lib.ListN.{get_or}
+use Rattle.off_faces.proofs.FacesWritten.{faced_none, faced_left, faced_end, faced_fits, faced_same, faced_more, faced_skip}
+use Rattle.off_faces.proofs.put_faces_of.Goals as goal
+
+pub loop-k-init : goal.loop-k-init
+loop-k-init c = (search rules, faced_none _ _ (let h = c.requires.count_in_bounds in omega arith))
+
+pub place_over-i-requires : goal.place_over-i-requires
+place_over-i-requires c = faced_left c.loop-k.invariant.1 _ c.count_over-many.ensures.value c.loop-k-test.true
+
+pub overflow_cast-b : goal.overflow_cast-b
+overflow_cast-b c = omega (arith, c.type_inv.ring c.place_over-i.result)
+
+pub overflow_cast-c : goal.overflow_cast-c
+overflow_cast-c c = omega (arith, c.type_inv.ring c.place_before.result)
+
+pub put_face-end-requires : goal.put_face-end-requires
+put_face-end-requires c =
+    let e = ap (λ j. get_or c.args.ring.now j 0) c.place_before.ensures.value in
+    faced_fits c.loop-k.invariant.1 c.requires.ascending _ c.place_over-i.ensures.upper_bound c.place_over-i.ensures.last_bound c.place_over-i.ensures.ring_value _ e c.if-a-c.true c.requires.count_in_bounds
+
+pub loop-k-preserved : goal.loop-k-preserved
+loop-k-preserved c =
+    let w = c.loop-k.invariant.1 in
+    let s = c.requires.ascending in
+    let e = ap (λ j. get_or c.args.ring.now j 0) c.place_before.ensures.value in (
+      omega arith,
+      ⊎_elim
+          (λ d. faced_same d.5 d.6 (faced_more w s _ c.place_over-i.ensures.upper_bound c.place_over-i.ensures.last_bound c.place_over-i.ensures.ring_value _ e d.0.taken d.2.ensures))
+          (λ d. faced_same d.1 d.2 (faced_skip w s _ c.place_over-i.ensures.upper_bound c.place_over-i.ensures.last_bound c.place_over-i.ensures.ring_value _ e d.0.left))
+          c.if-a-c.branch,
+    )
+
+pub returns : goal.returns
+returns c =
+    faced_end c.loop-k.invariant.1 _ c.count_over-many.ensures.value c.loop-k-test.false c.requires.ascending

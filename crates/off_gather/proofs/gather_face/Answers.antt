@@ -1,0 +1,30 @@
+-- `gather_face` meets its contract. Assumes nothing.
+use Rattle.off_gather.proofs.Gathering.{room_noted, low_none, low_one, low_two, gathered_more, small_enough, same_three}
+use Rattle.off_gather.proofs.gather_face.Goals as goal
+
+pub note_in-requires : goal.note_in-requires
+note_in-requires c =
+    let small = small_enough c.requires.face_line c.corners_at-f.ensures in
+    record { room = c.requires.room; low = low_none _ _ _ _ _ c.requires.face_line.number c.requires.gathered; x_lt_place_bound = small.0; w_lt_place_bound = small.1.1 }
+
+pub note_in-requires-2 : goal.note_in-requires-2
+note_in-requires-2 c =
+    let p = c.requires in
+    let small = small_enough p.0 c.corners_at-f.ensures in
+    record { room = room_noted c.note_in.ensures p.1.0; low = low_one _ _ _ _ _ p.0.number p.1.1 c.note_in.ensures; x_lt_place_bound = small.1.0; w_lt_place_bound = small.0 }
+
+pub note_in-requires-3 : goal.note_in-requires-3
+note_in-requires-3 c =
+    let k = c in
+    let p = (from-corners k).requires in
+    let small = small_enough p.0 k.corners-at.ensures in
+    record { room = room_noted c.note_in-2.ensures (room_noted c.note_in.ensures p.1.0); low = low_two _ _ _ _ _ p.0.number p.1.1 c.note_in.ensures c.note_in-2.ensures; x_lt_place_bound = small.1.1; w_lt_place_bound = small.1.0 }
+
+pub returns : goal.returns
+returns c =
+    let one = c in
+    let k = from_one one in
+    let p = (from-corners k).requires in
+    let n₁ = one.note-in.ensures in
+    let g = gathered_more _ _ _ _ _ _ _ _ _ _ p.0.begins p.0.good k.corners-at.ensures p.1.1 n₁ c.note_in-2.ensures c.note_in-3.ensures in
+    record { value = g.0; same_room = same_three n₁ c.note_in-2.ensures c.note_in-3.ensures; gathered_2 = g.1 }

@@ -1,0 +1,94 @@
+-- `judge_block` meets its contract. Assumes nothing.
+use native.Mathlib.Omega.{arith}
+use Rattle.off_gather.proofs.Gathering.{room_same}
+use Rattle.off_gather.proofs.Rows.{row_counts, gathered_all, tables_room}
+use Rattle.off_judge.proofs.Stepping.{rows_passed, stepped_past, stepped_wider, stepped_narrow, stepped_wide}
+use Rattle.off_judge.proofs.judge_block.Goals as goal
+
+pub rows_of-rows-requires : goal.rows_of-rows-requires
+rows_of-rows-requires c = c.requires.sofar.wide
+
+pub gather_faces-requires : goal.gather_faces-requires
+gather_faces-requires c =
+    record { face_lines = c.requires.face_lines; room = tables_room c.rows_of-rows.ensures c.requires.tables }
+
+pub stop_row-j-requires : goal.stop_row-j-requires
+stop_row-j-requires c =
+    let p = c.requires in
+    record { count_value = p.0; room = room_same c.gather_faces.ensures.same_room (tables_room c.rows_of-rows.ensures p.1.1.0); gathered = gathered_all p.1.0 c.gather_faces.ensures.gathered }
+
+pub first_unfit-unfit-requires : goal.first_unfit-unfit-requires
+first_unfit-unfit-requires c =
+    let t = let r = c in
+    let p = (from-rows r).requires in
+    rows_passed (from-rows r).args.text.now r.rows_of.ensures p.1.1.0 c.gather_faces.ensures.same_room p.1.1.1.1 c.stop_row-j.ensures in
+    record { rows_in_bounds = t.0; rows_bound = t.1 }
+
+pub overflow_add-result : goal.overflow_add-result
+overflow_add-result c =
+    let m = c in
+    let r = from-gathered m in
+    let p = (from-rows r).requires in
+    omega (
+      arith,
+      (rows_passed (from-rows r).args.text.now r.rows_of.ensures p.1.1.0 m.gather-faces.ensures.1
+          p.1.1.1.1 c.stop_row-j.ensures).1,
+    )
+
+pub narrower-requires : goal.narrower-requires
+narrower-requires c = (from-rows (from-gathered c)).requires.1.1.1.0.wide
+
+pub returns-then-rows-j : goal.returns-then-rows-j
+returns-then-rows-j c =
+    let m = c in
+    let r = from-gathered m in
+    let p = (from-rows r).requires in
+    record {
+      stepped = stepped_past p.1.0 m.gather-faces.ensures.0 p.1.1.1.0 r.rows_of.ensures
+          p.0 p.1.1.1.1 c.stop_row-j.ensures c.first_unfit-unfit.ensures c.if-rows-j.true c.narrower.ensures;
+      same_room = m.gather-faces.ensures.1;
+    }
+
+pub bounds-counts-j : goal.bounds-counts-j
+bounds-counts-j c =
+    let m = c in
+    let r = from-gathered m in
+    row_counts (room_same m.gather-faces.ensures.1 (tables_room r.rows_of.ensures (from-rows r).requires.1.1.0)) c.if-rows-j.false
+
+pub returns-then-counts-j : goal.returns-then-counts-j
+returns-then-counts-j c =
+    let m = c in
+    let r = from-gathered m in
+    let p = (from-rows r).requires in
+    record {
+      stepped = stepped_narrow p.1.0 m.gather-faces.ensures.0 p.1.1.1.0 r.rows_of.ensures
+          p.0 p.1.1.1.1 c.stop_row-j.ensures c.first_unfit-unfit.ensures c.if-rows-j.false c.if-counts-j.true;
+      same_room = m.gather-faces.ensures.1;
+    }
+
+pub returns-then-width-ge-PLACES : goal.returns-then-width-ge-PLACES
+returns-then-width-ge-PLACES c =
+    let m = c in
+    let r = from-gathered m in
+    let p = (from-rows r).requires in
+    record {
+      stepped = stepped_wide p.1.0 m.gather-faces.ensures.0 p.1.1.1.0 r.rows_of.ensures
+          p.0 p.1.1.1.1 c.stop_row-j.ensures c.first_unfit-unfit.ensures c.if-rows-j.false c.if-width-ge-PLACES.true c.if-counts-j.false;
+      same_room = m.gather-faces.ensures.1;
+    }
+
+pub wider-requires : goal.wider-requires
+wider-requires c =
+    record { width = (from-rows (from-gathered c)).requires.1.1.1.0.wide; width_lt_places = c.if-width-ge-PLACES.false }
+
+pub returns : goal.returns
+returns c =
+    let m = c in
+    let r = from-gathered m in
+    let p = (from-rows r).requires in
+    record {
+      stepped = stepped_wider p.1.0 m.gather-faces.ensures.0 p.1.1.1.0 r.rows_of.ensures
+          p.0 p.1.1.1.1 c.stop_row-j.ensures c.first_unfit-unfit.ensures
+          c.if-rows-j.false c.wider.ensures.width_2 c.wider.ensures.lower_bound;
+      same_room = m.gather-faces.ensures.1;
+    }

@@ -1,0 +1,49 @@
+-- `read_unit` meets its contract. Assumes nothing.
+use mathlib.Core.Path.{◌∙◌}
+use native.Mathlib.Omega.{arith}
+use mir.Syntax.{w32}
+use mir.ValLaws.{to_z-of_z}
+use Rattle.off_known.proofs.Knowing.{unit_within, unit_below, unit_above, unit_below_is, unit_above_is}
+use Rattle.off_known.proofs.read_unit.Goals as goal
+
+pub bounds-text-at : goal.bounds-text-at
+bounds-text-at c = unit_within c.requires
+
+pub overflow_cast-text : goal.overflow_cast-text
+overflow_cast-text c = omega (arith, c.type_inv.text c.args.at)
+
+pub overflow_add-at : goal.overflow_add-at
+overflow_add-at c = omega (arith, unit_within c.requires)
+
+pub read_number-below-requires : goal.read_number-below-requires
+read_number-below-requires c = (unit_below c.requires c.if-text-at-eq-MINUS.true).1.there
+
+pub overflow_sub-below : goal.overflow_sub-below
+overflow_sub-below c =
+    let k = unit_below c.requires c.if-text-at-eq-MINUS.true in
+    omega (arith, k.1.low, c.read_number-below.ensures.value_value)
+
+pub coordinate_of-requires : goal.coordinate_of-requires
+coordinate_of-requires c =
+    let k = unit_below c.requires c.if-text-at-eq-MINUS.true in
+    omega (arith, k.0, k.1.low, c.read_number-below.ensures.value_value)
+
+pub returns-then-text-at-eq-MINUS : goal.returns-then-text-at-eq-MINUS
+returns-then-text-at-eq-MINUS c =
+    let t = unit_below_is c.requires c.if-text-at-eq-MINUS.true c.read_number-below.ensures.value_value c.read_number-below.ensures.next_value
+    (to_z-of_z w32 c.coordinate_of.result (record { sfits = c.coordinate_of.type-inv }) ∙ c.coordinate_of.ensures) in
+    record { value_value = t.0; next_value = t.1 }
+
+pub read_number-above-requires : goal.read_number-above-requires
+read_number-above-requires c = (unit_above c.requires c.if-text-at-eq-MINUS.false).there
+
+pub coordinate_of-requires-2 : goal.coordinate_of-requires-2
+coordinate_of-requires-2 c =
+    let k = unit_above c.requires c.if-text-at-eq-MINUS.false in
+    omega (arith, k.low, c.read_number-above.ensures.value_value)
+
+pub returns : goal.returns
+returns c =
+    let t = unit_above_is c.requires c.if-text-at-eq-MINUS.false c.read_number-above.ensures.value_value c.read_number-above.ensures.next_value
+    (to_z-of_z w32 c.coordinate_of-2.result (record { sfits = c.coordinate_of-2.type-inv }) ∙ c.coordinate_of-2.ensures) in
+    record { value_value = t.0; next_value = t.1 }

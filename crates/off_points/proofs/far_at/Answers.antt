@@ -1,0 +1,28 @@
+-- `far_at` meets its contract. Assumes nothing.
+use Rattle.rings.proofs.Checks.{beyond_read}
+use Rattle.off_points.proofs.Pointing.{far_x, far_y, far_z}
+use Rattle.off_points.proofs.far_at.Goals as goal
+
+pub point_at-line-requires : goal.point_at-line-requires
+point_at-line-requires c = c.requires
+
+pub returns-then-is_beyond : goal.returns-then-is_beyond
+returns-then-is_beyond c =
+    record { far_value = far_x c.point_at-line.ensures (beyond_read _ _ c.struct_told-1.given.0.1 c.is_beyond.ensures) c.if-is_beyond.true; next_value = c.point_at-line.ensures.next_is }
+
+pub returns-then-is_beyond-2 : goal.returns-then-is_beyond-2
+returns-then-is_beyond-2 c =
+    record {
+      far_value = far_y c.point_at-line.ensures (beyond_read _ _ c.struct_told-1.given.0.1 c.is_beyond.ensures) c.if-is_beyond.false
+          (beyond_read _ _ c.struct_told-2-1.given.1.0.1 c.is_beyond-2.ensures) c.if-is_beyond-2.true;
+      next_value = c.point_at-line.ensures.next_is;
+    }
+
+pub returns : goal.returns
+returns c =
+    record {
+      far_value = far_z c.point_at-line.ensures (beyond_read _ _ c.struct_told-1.given.0.1 c.is_beyond.ensures) c.if-is_beyond.false
+          (beyond_read _ _ c.struct_told-2-1.given.1.0.1 c.is_beyond-2.ensures) c.if-is_beyond-2.false
+          (beyond_read _ _ c.struct_told-3-1.given.1.1.0.1 c.is_beyond-3.ensures);
+      next_value = c.point_at-line.ensures.next_is;
+    }

@@ -1,0 +1,23 @@
+-- `point_at_lem` meets its contract. Assumes nothing.
+use mathlib.Core.Path.{◌∙◌}
+use mir.Syntax.{w32}
+use mir.ValLaws.{to_z-of_z}
+use Rattle.off_points.proofs.Pointing.{first_there, second_there, third_there, point_read}
+use Rattle.off_points.proofs.point_at.Goals as goal
+
+pub read_unit-x-requires : goal.read_unit-x-requires
+read_unit-x-requires c = first_there c.requires
+
+pub read_unit-y-requires : goal.read_unit-y-requires
+read_unit-y-requires c = second_there c.requires c.read_unit-x.ensures.next_value
+
+pub read_unit-z-requires : goal.read_unit-z-requires
+read_unit-z-requires c = third_there c.requires c.read_unit-x.ensures.next_value c.read_unit-y.ensures.next_value
+
+pub returns : goal.returns
+returns c =
+    point_read c.requires c.read_unit-x.ensures.next_value c.read_unit-y.ensures.next_value
+    (to_z-of_z w32 c.read_unit-x.result.value (record { sfits = c.struct_told-1.given.0.1 }) ∙ c.read_unit-x.ensures.value_value)
+    (to_z-of_z w32 c.read_unit-y.result.value (record { sfits = c.struct_told-2-1.given.0.1 }) ∙ c.read_unit-y.ensures.value_value)
+    (to_z-of_z w32 c.read_unit-z.result.value (record { sfits = c.struct_told-3-1.given.0.1 }) ∙ c.read_unit-z.ensures.value_value)
+    c.read_unit-z.ensures.next_value

@@ -1,0 +1,78 @@
+-- `write_levels` meets its contract: the invariant is that levels 0 to k stand in the tables, and `below` is level k. Assumes nothing.
+use Prim.Native.Nat.{◌-◌}
+use native.Mathlib.Omega.{arith}
+use Rattle.rings.specs.Table.{lent}
+use Rattle.stack_judge.proofs.Judged.{counted_edges}
+use Rattle.stack_refine.proofs.WrittenLevels.{Bounds, running_none, running_bounds, running_levels, running_more, end_counts, end_tables}
+use Rattle.stack_refine.proofs.levels.write_levels.Goals as goal
+
+pub edge_count-requires : goal.edge_count-requires
+edge_count-requires c =
+    record { count_in_bounds = c.requires.control.room.valences; count_le_most_count = c.requires.control.high }
+
+pub ground-below-requires : goal.ground-below-requires
+ground-below-requires c = c.edge_count.ensures.upper_bound
+
+pub loop-k-init : goal.loop-k-init
+loop-k-init c =
+    running_none _ _ _ _ _ (counted_edges _ _ _ c.requires.control _ c.edge_count.ensures.value) c.edge_count.ensures.upper_bound _ c.ground-below.ensures
+
+pub offset_bounds-valences-base : goal.offset_bounds-valences-base
+offset_bounds-valences-base c =
+    let bounds : Bounds c.loop-k.below (lent c.loop-k.valences c.loop-k.rings) c.loop-k.positions = running_bounds c.requires c.loop-k.invariant in
+    let h = bounds in omega arith
+
+pub slice_bounds-write_level-count : goal.slice_bounds-write_level-count
+slice_bounds-write_level-count c =
+    let bounds : Bounds c.loop-k.below (lent c.loop-k.valences c.loop-k.rings) c.loop-k.positions = running_bounds c.requires c.loop-k.invariant in
+    let h = bounds in omega arith
+
+pub overflow_mul-base : goal.overflow_mul-base
+overflow_mul-base c =
+    let bounds : Bounds c.loop-k.below (lent c.loop-k.valences c.loop-k.rings) c.loop-k.positions = running_bounds c.requires c.loop-k.invariant in
+    let h = bounds in omega arith
+
+pub offset_bounds-rings-base : goal.offset_bounds-rings-base
+offset_bounds-rings-base c =
+    let bounds : Bounds c.loop-k.below (lent c.loop-k.valences c.loop-k.rings) c.loop-k.positions = running_bounds c.requires c.loop-k.invariant in
+    let h = bounds in omega arith
+
+pub slice_bounds-write_level-count-in-loop-k : goal.slice_bounds-write_level-count-in-loop-k
+slice_bounds-write_level-count-in-loop-k c =
+    let bounds : Bounds c.loop-k.below (lent c.loop-k.valences c.loop-k.rings) c.loop-k.positions = running_bounds c.requires c.loop-k.invariant in
+    let h = bounds in omega arith
+
+pub overflow_mul-base-in-loop-k : goal.overflow_mul-base-in-loop-k
+overflow_mul-base-in-loop-k c =
+    let bounds : Bounds c.loop-k.below (lent c.loop-k.valences c.loop-k.rings) c.loop-k.positions = running_bounds c.requires c.loop-k.invariant in
+    let h = bounds in omega arith
+
+pub offset_bounds-positions-base : goal.offset_bounds-positions-base
+offset_bounds-positions-base c =
+    let bounds : Bounds c.loop-k.below (lent c.loop-k.valences c.loop-k.rings) c.loop-k.positions = running_bounds c.requires c.loop-k.invariant in
+    let h = bounds in omega arith
+
+pub slice_bounds-write_level-count-in-loop-k-2 : goal.slice_bounds-write_level-count-in-loop-k-2
+slice_bounds-write_level-count-in-loop-k-2 c =
+    let bounds : Bounds c.loop-k.below (lent c.loop-k.valences c.loop-k.rings) c.loop-k.positions = running_bounds c.requires c.loop-k.invariant in
+    let h = bounds in omega arith
+
+pub write_level-requires : goal.write_level-requires
+write_level-requires c = running_levels c.requires c.loop-k.invariant (omega arith)
+
+pub above-below-requires : goal.above-below-requires
+above-below-requires c =
+    let bounds : Bounds c.loop-k.below (lent c.loop-k.valences c.loop-k.rings) c.loop-k.positions = running_bounds c.requires c.loop-k.invariant in
+    bounds.small
+
+pub overflow_add-k : goal.overflow_add-k
+overflow_add-k c = let h = c.requires.high in omega arith
+
+pub loop-k-preserved : goal.loop-k-preserved
+loop-k-preserved c =
+    running_more c.requires c.loop-k.invariant (omega arith) _ _ _ c.write_level.ensures.valences_after c.write_level.ensures.rings_after c.write_level.ensures.positions_after _ c.above-below.ensures
+
+pub returns : goal.returns
+returns c =
+    let t = (end_counts c.requires c.loop-k.invariant (omega arith), end_tables c.requires c.loop-k.invariant (omega arith)) in
+    record { value = t.0; valences_after = t.1.0; rings_after = t.1.1.0; positions_after = t.1.1.1 }
