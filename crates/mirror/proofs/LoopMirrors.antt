@@ -73,9 +73,9 @@ module _ (M N : Mesh) (S : Sound M) (R : Mirrored M N) where
     new_ring_lem =
         let mids : (v u : ℕ) → v < M.count → mid N v u ≡ mid M v u = m.mid_mirrored M N R in
         let here : (refine M).ring (mid M p q) ≡ around M p q (next (M.ring p) q) (prev (M.ring p) q) =
-        refined.new_ring M S p q l h i ∙ ap (around M p q (next (M.ring p) q)) (sym (H.prev_next M S p q h i)) in
+        refined.new_ring_lem M S p q l h i ∙ ap (around M p q (next (M.ring p) q)) (sym (H.prev_next M S p q h i)) in
         let there : (refine N).ring (mid M p q) ≡ around N p q (prev (M.ring p) q) (next (M.ring p) q) =
-        ap (λ x. (refine N).ring x) (sym (mids p q h)) ∙ refined.new_ring N T p q l h' i'
+        ap (λ x. (refine N).ring x) (sym (mids p q h)) ∙ refined.new_ring_lem N T p q l h' i'
         ∙ ap₂ (around N p q) after_is (sym (H.prev_next N T p q h' i') ∙ before_is) in
         let turned = image (next (M.ring p) q) (prev (M.ring p) q) (λ u. mids p u h) (λ u. mids q u g) in
         rw (here, there) (record { start = 5; within = omega arith; turned = turned })
@@ -93,8 +93,8 @@ module _ (M N : Mesh) (S : Sound M) (R : Mirrored M N) where
 
   old_ring_mirrored : (v : ℕ) → v < M.count → SameRound (reverse ((refine M).ring v)) ((refine N).ring v)
   old_ring_mirrored v h =
-      let here = refined.old_ring M S v h in
-      let there = refined.old_ring N T v (rw R.count h) ∙ map_same (mid N v) (mid M v) (λ u. m.mid_mirrored M N R v u h) (N.ring v) in
+      let here = refined.old_ring_lem M S v h in
+      let there = refined.old_ring_lem N T v (rw R.count h) ∙ map_same (mid N v) (mid M v) (λ u. m.mid_mirrored M N R v u h) (N.ring v) in
       let s = round_mapped (mid M v) (reverse (M.ring v)) (N.ring v) (R.ring v h) in
       rw (here, there) (subst (λ l. SameRound l (map (mid M v) (N.ring v))) (map_reverse_aux (mid M v) (M.ring v) []) s)
 

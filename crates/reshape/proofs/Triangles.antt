@@ -1,7 +1,7 @@
 -- An edit of a mesh takes some triangles away and brings others. Where the rings of the new mesh hold exactly the triangles
 -- kept and the triangles brought, and each ring is proper with 3 or more, the new mesh is sound.
 -- Assumes nothing.
-use mathlib.Core.Path.{◌≡◌, subst}
+use mathlib.Core.Path.{◌≡◌, sym, subst}
 use mathlib.Core.List.{List, [], ◌∷◌}
 use mathlib.Core.Logic.{◌⊎◌, inl, inr, ⊎_elim, ◌≢◌}
 use Prim.Native.Nat.{ℕ, ◌≤◌, ◌<◌}
@@ -69,7 +69,7 @@ among_holds N v u w (t ∷ l) h (inr m) = among_holds N v u w l h.1 m
 
 differs : (v : ℕ) (l : List ℕ) → (v ∈ l → ⊥) → All (λ y. v ≢ y) l
 differs v [] n = tt
-differs v (a ∷ l) n = ((λ e. n (rw e (here a l))), differs v l (λ m. n (there v a l m)))
+differs v (a ∷ l) n = ((λ e. n (subst (λ y. y ∈ a ∷ l) (sym e) (here a l))), differs v l (λ m. n (there v a l m)))
 
 -- what holds at each of some vertices and at all others holds at all
 pub at_each : (P : ℕ → Type 0) (l : List ℕ) → All P l → (v : ℕ) → (All (λ y. v ≢ y) l → P v) → P v

@@ -10,7 +10,8 @@ clear-requires c = omega (arith, c.requires.room.counts_long)
 
 pub loop-i-init : goal.loop-i-init
 loop-i-init c =
-    (omega arith, (c.requires.face_lines.begins, (room_same (same_cleared c.clear.ensures) c.requires.room, (same_none, gathered_none c.clear.ensures))))
+    let e = c.clear.ensures in
+    (omega arith, (c.requires.face_lines.begins, (room_same (same_cleared e) c.requires.room, (same_none, gathered_none e))))
 
 pub gather_face-at-requires : goal.gather_face-at-requires
 gather_face-at-requires c =
@@ -25,4 +26,5 @@ loop-i-preserved c =
 pub returns : goal.returns
 returns c =
     let i = c.loop-i.invariant in
-    record { gathered = gathered_end i.0 c.loop-i-test.false i.1.1.1.1; same_room = same_more (same_cleared c.clear.ensures) i.1.1.1.0 }
+    let e = c.clear.ensures in
+    record { gathered = gathered_end i.0 c.loop-i-test.false i.1.1.1.1; same_room = same_more (same_cleared e) i.1.1.1.0 }

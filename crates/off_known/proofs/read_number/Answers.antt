@@ -36,7 +36,8 @@ overflow_add-result c =
 
 pub returns-then-second-lt-ZERO : goal.returns-then-second-lt-ZERO
 returns-then-second-lt-ZERO c =
-    let e = reading_end (reading_one c.requires) c.requires c.if-second-lt-ZERO.true in
+    let p = c.requires in
+    let e = reading_end (reading_one p) p c.if-second-lt-ZERO.true in
     record { value_value = e.0; next_value = omega (arith, e.1) }
 
 pub overflow_mul-two : goal.overflow_mul-two
@@ -47,12 +48,14 @@ overflow_add-two c = omega (arith, reading_bound (reading_two c.requires c.if-se
 
 pub overflow_add-third : goal.overflow_add-third
 overflow_add-third c =
-    let after_two : c.args.at + 3 ≤ length c.args.text.now = omega (arith, reading_last (reading_two c.requires c.if-second-lt-ZERO.false) c.requires) in
+    let after_two : c.args.at + 3 ≤ length c.args.text.now = let p = c.requires in
+    omega (arith, reading_last (reading_two p c.if-second-lt-ZERO.false) p) in
     omega (arith, after_two)
 
 pub bounds-text-at-3 : goal.bounds-text-at-3
 bounds-text-at-3 c =
-    let after_two : c.args.at + 3 ≤ length c.args.text.now = omega (arith, reading_last (reading_two c.requires c.if-second-lt-ZERO.false) c.requires) in
+    let after_two : c.args.at + 3 ≤ length c.args.text.now = let p = c.requires in
+    omega (arith, reading_last (reading_two p c.if-second-lt-ZERO.false) p) in
     omega (arith, after_two)
 
 pub overflow_cast-third : goal.overflow_cast-third
@@ -60,12 +63,14 @@ overflow_cast-third c = omega (arith, c.type_inv.text (c.args.at + 2))
 
 pub overflow_add-result-then-third-lt-ZERO : goal.overflow_add-result-then-third-lt-ZERO
 overflow_add-result-then-third-lt-ZERO c =
-    let after_two : c.args.at + 3 ≤ length c.args.text.now = omega (arith, reading_last (reading_two c.requires c.if-second-lt-ZERO.false) c.requires) in
+    let after_two : c.args.at + 3 ≤ length c.args.text.now = let p = c.requires in
+    omega (arith, reading_last (reading_two p c.if-second-lt-ZERO.false) p) in
     omega (arith, after_two)
 
 pub returns-then-third-lt-ZERO : goal.returns-then-third-lt-ZERO
 returns-then-third-lt-ZERO c =
-    let e = reading_end (reading_two c.requires c.if-second-lt-ZERO.false) c.requires c.if-third-lt-ZERO.true in
+    let p = c.requires in
+    let e = reading_end (reading_two p c.if-second-lt-ZERO.false) p c.if-third-lt-ZERO.true in
     record { value_value = e.0; next_value = omega (arith, e.1) }
 
 pub overflow_mul-value : goal.overflow_mul-value
@@ -76,12 +81,14 @@ overflow_add-value c = omega (arith, reading_bound (reading_three c.requires c.i
 
 pub overflow_add-next : goal.overflow_add-next
 overflow_add-next c =
-    let after-three : c.args.at + 4 ≤ length c.args.text.now = omega (arith, reading_last (reading_three c.requires c.if-second-lt-ZERO.false c.if-third-lt-ZERO.false) c.requires) in
+    let after-three : c.args.at + 4 ≤ length c.args.text.now = let p = c.requires in
+    omega (arith, reading_last (reading_three p c.if-second-lt-ZERO.false c.if-third-lt-ZERO.false) p) in
     omega (arith, after-three)
 
 pub bounds-text-next : goal.bounds-text-next
 bounds-text-next c =
-    let after-three : c.args.at + 4 ≤ length c.args.text.now = omega (arith, reading_last (reading_three c.requires c.if-second-lt-ZERO.false c.if-third-lt-ZERO.false) c.requires) in
+    let after-three : c.args.at + 4 ≤ length c.args.text.now = let p = c.requires in
+    omega (arith, reading_last (reading_three p c.if-second-lt-ZERO.false c.if-third-lt-ZERO.false) p) in
     omega (arith, after-three)
 
 pub overflow_cast-byte : goal.overflow_cast-byte

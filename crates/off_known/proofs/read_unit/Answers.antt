@@ -31,7 +31,7 @@ coordinate_of-requires c =
 pub returns-then-text-at-eq-MINUS : goal.returns-then-text-at-eq-MINUS
 returns-then-text-at-eq-MINUS c =
     let t = unit_below_is c.requires c.if-text-at-eq-MINUS.true c.read_number-below.ensures.value_value c.read_number-below.ensures.next_value
-    (to_z-of_z w32 c.coordinate_of.result (record { sfits = c.coordinate_of.type-inv }) ∙ c.coordinate_of.ensures) in
+    (to_z-of_z w32 c.coordinate_of.result (record { sfits = c.coordinate_of.type_inv }) ∙ c.coordinate_of.ensures) in
     record { value_value = t.0; next_value = t.1 }
 
 pub read_number-above-requires : goal.read_number-above-requires
@@ -45,5 +45,5 @@ coordinate_of-requires-2 c =
 pub returns : goal.returns
 returns c =
     let t = unit_above_is c.requires c.if-text-at-eq-MINUS.false c.read_number-above.ensures.value_value c.read_number-above.ensures.next_value
-    (to_z-of_z w32 c.coordinate_of-2.result (record { sfits = c.coordinate_of-2.type-inv }) ∙ c.coordinate_of-2.ensures) in
+    (to_z-of_z w32 c.coordinate_of-2.result (record { sfits = c.coordinate_of-2.type_inv }) ∙ c.coordinate_of-2.ensures) in
     record { value_value = t.0; next_value = t.1 }

@@ -44,7 +44,8 @@ past_faces-lines-requires c =
     let opens : is_word c.args.text.now ≡ true = sym c.is_word.ensures ∙ c.if-not-is_word.false in
     let heads : HeadFound (from-word c).args.text.now
     c.in-Of.count c.in-Of.faces c.in-Of.next = head_found _ _ _ _ (sym c.in-Of.is ∙ c.head_of.ensures) in
-    record { from_value = faces_begin _ opens _ _ _ heads _ _ c.past_vertices-vertices.ensures c.if-v-count.false; from_in_bounds = c.past_vertices-vertices.ensures.within; count_value = heads.count_is }
+    let p = c.past_vertices-vertices.ensures in
+    record { from_value = faces_begin _ opens _ _ _ heads _ _ p c.if-v-count.false; from_in_bounds = p.within; count_value = heads.count_is }
 
 pub overflow_add-result-then-i-faces : goal.overflow_add-result-then-i-faces
 overflow_add-result-then-i-faces c =

@@ -8,21 +8,24 @@ point_at-line-requires c = c.requires
 
 pub returns-then-is_beyond : goal.returns-then-is_beyond
 returns-then-is_beyond c =
-    record { far_value = far_x c.point_at-line.ensures (beyond_read _ _ c.struct_told-1.given.0.1 c.is_beyond.ensures) c.if-is_beyond.true; next_value = c.point_at-line.ensures.next_is }
+    let k = c.point_at-line.ensures in
+    record { far_value = far_x k (beyond_read _ _ c.struct_told-1.given.0.1 c.is_beyond.ensures) c.if-is_beyond.true; next_value = k.next_is }
 
 pub returns-then-is_beyond-2 : goal.returns-then-is_beyond-2
 returns-then-is_beyond-2 c =
+    let k = c.point_at-line.ensures in
     record {
-      far_value = far_y c.point_at-line.ensures (beyond_read _ _ c.struct_told-1.given.0.1 c.is_beyond.ensures) c.if-is_beyond.false
+      far_value = far_y k (beyond_read _ _ c.struct_told-1.given.0.1 c.is_beyond.ensures) c.if-is_beyond.false
           (beyond_read _ _ c.struct_told-2-1.given.1.0.1 c.is_beyond-2.ensures) c.if-is_beyond-2.true;
-      next_value = c.point_at-line.ensures.next_is;
+      next_value = k.next_is;
     }
 
 pub returns : goal.returns
 returns c =
+    let k = c.point_at-line.ensures in
     record {
-      far_value = far_z c.point_at-line.ensures (beyond_read _ _ c.struct_told-1.given.0.1 c.is_beyond.ensures) c.if-is_beyond.false
+      far_value = far_z k (beyond_read _ _ c.struct_told-1.given.0.1 c.is_beyond.ensures) c.if-is_beyond.false
           (beyond_read _ _ c.struct_told-2-1.given.1.0.1 c.is_beyond-2.ensures) c.if-is_beyond-2.false
           (beyond_read _ _ c.struct_told-3-1.given.1.1.0.1 c.is_beyond-3.ensures);
-      next_value = c.point_at-line.ensures.next_is;
+      next_value = k.next_is;
     }

@@ -8,7 +8,8 @@ use Rattle.off_reading.proofs.read_lines.Goals as goal
 
 pub judge_vertices-faults-requires : goal.judge_vertices-faults-requires
 judge_vertices-faults-requires c =
-    record { count_value = c.requires.count_is; face_lines = c.requires.face_lines; tables = tables_long }
+    let p = c.requires in
+    record { count_value = p.count_is; face_lines = p.face_lines; tables = tables_long }
 
 pub returns-then-open-count : goal.returns-then-open-count
 unfolding after
@@ -45,4 +46,5 @@ unfolding after
 returns c =
     let u = c in
     let j = from-closed u.before in
-    record { value = all_accepted (from-judged j).requires j.judge-vertices.ensures.0 u.before.if1.left u.if2.left c.first_far-far.ensures c.if-far-count.left; valences_after = valences_written _ c.fill_rings.ensures; rings_after = rings_written _ c.fill_rings.ensures; positions_after = c.fill_points.ensures.is }
+    let f = c.fill_rings.ensures in
+    record { value = all_accepted (from-judged j).requires j.judge-vertices.ensures.0 u.before.if1.left u.if2.left c.first_far-far.ensures c.if-far-count.left; valences_after = valences_written _ f; rings_after = rings_written _ f; positions_after = c.fill_points.ensures.is }

@@ -18,8 +18,7 @@ put_word-requires c =
     + (length (vertex_lines a.count (lent a.valences.now a.rings.now) a.positions.now)
     + length (corner_lines a.count (lent a.valences.now a.rings.now) a.positions.now)))
     ≤ length a.text.now = let a = c.args in
-    let p = (c.requires.e_value, (c.requires.f_value, c.requires.positions_in_bounds)) in
-    parts_fit a.count (lent a.valences.now a.rings.now) a.positions.now a.e a.f p.0 p.1.0 p.1.1 in
+    parts_fit a.count (lent a.valences.now a.rings.now) a.positions.now a.e a.f c.requires.e_value c.requires.f_value c.requires.positions_in_bounds in
     let h = fit in omega arith
 
 pub put_counts-vertices-requires : goal.put_counts-vertices-requires
@@ -29,8 +28,7 @@ put_counts-vertices-requires c =
     + (length (vertex_lines a.count (lent a.valences.now a.rings.now) a.positions.now)
     + length (corner_lines a.count (lent a.valences.now a.rings.now) a.positions.now)))
     ≤ length a.text.now = let a = c.args in
-    let p = (c.requires.e_value, (c.requires.f_value, c.requires.positions_in_bounds)) in
-    parts_fit a.count (lent a.valences.now a.rings.now) a.positions.now a.e a.f p.0 p.1.0 p.1.1 in
+    parts_fit a.count (lent a.valences.now a.rings.now) a.positions.now a.e a.f c.requires.e_value c.requires.f_value c.requires.positions_in_bounds in
     let h = fit in
     let w = put_length c.put_word.ensures in
     omega arith
@@ -43,12 +41,12 @@ put_vertices-corners-requires c =
     + (length (vertex_lines a.count (lent a.valences.now a.rings.now) a.positions.now)
     + length (corner_lines a.count (lent a.valences.now a.rings.now) a.positions.now)))
     ≤ length a.text.now = let a = c.args in
-    let p = (c.requires.e_value, (c.requires.f_value, c.requires.positions_in_bounds)) in
-    parts_fit a.count (lent a.valences.now a.rings.now) a.positions.now a.e a.f p.0 p.1.0 p.1.1 in
+    parts_fit a.count (lent a.valences.now a.rings.now) a.positions.now a.e a.f c.requires.e_value c.requires.f_value c.requires.positions_in_bounds in
     let h = fit in
     let w = put_length c.put_word.ensures in
-    let l = written_length c.put_counts-vertices.ensures in
-    let e = c.put_counts-vertices.ensures.ends in
+    let k = c.put_counts-vertices.ensures in
+    let l = written_length k in
+    let e = k.ends in
     record { count_in_bounds = checked.points; count_in_bounds_2 = omega arith }
 
 pub put_faces-requires : goal.put_faces-requires
@@ -59,16 +57,17 @@ put_faces-requires c =
     + (length (vertex_lines a.count (lent a.valences.now a.rings.now) a.positions.now)
     + length (corner_lines a.count (lent a.valences.now a.rings.now) a.positions.now)))
     ≤ length a.text.now = let a = c.args in
-    let p = (c.requires.e_value, (c.requires.f_value, c.requires.positions_in_bounds)) in
-    parts_fit a.count (lent a.valences.now a.rings.now) a.positions.now a.e a.f p.0 p.1.0 p.1.1 in
+    parts_fit a.count (lent a.valences.now a.rings.now) a.positions.now a.e a.f c.requires.e_value c.requires.f_value c.requires.positions_in_bounds in
     let o = c in
     let s = from-word o in
     let h = fit s in
     let w = put_length o.put_word.ensures in
-    let l = written_length c.put_counts-vertices.ensures in
-    let m = written_length c.put_vertices-corners.ensures in
-    let e = c.put_counts-vertices.ensures.ends in
-    let f = c.put_vertices-corners.ensures.ends in
+    let k = c.put_counts-vertices.ensures in
+    let v = c.put_vertices-corners.ensures in
+    let l = written_length k in
+    let m = written_length v in
+    let e = k.ends in
+    let f = v.ends in
     record { fit = accepted_fit _ _ _ (accepted_all _ _ _ (checked s)); sound = (checked s).sound; rings_in_bounds = omega arith }
 
 pub returns : goal.returns

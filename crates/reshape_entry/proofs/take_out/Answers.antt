@@ -6,7 +6,8 @@ use Rattle.reshape_entry.proofs.take_out.Goals as goal
 
 pub erase_at-requires : goal.erase_at-requires
 erase_at-requires c =
-    record { editable = c.requires.row; i_bound = ready_place c.requires _ (c.seek-i.ensures ∙ ap (place _) c.ring_of.ensures.result_value); v_bound = ready_valence c.requires }
+    let r = c.requires in
+    record { editable = r.row; i_bound = ready_place r _ (c.seek-i.ensures ∙ ap (place _) c.ring_of.ensures.result_value); v_bound = ready_valence r }
 
 pub returns : goal.returns
 returns c =

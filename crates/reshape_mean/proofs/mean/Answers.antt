@@ -11,4 +11,5 @@ pub returns : goal.returns
 returns c =
     let s = c.args.s in
     let n = c.args.n in
-    mean_is offset n refl (self s (offset * n)) (c.coordinate.ensures.0 ∙ sym (rounded_factor 2 s offset n (lit< tt) c.requires.fact_2 refl), c.coordinate.ensures.1)
+    let h = c.coordinate.ensures in
+    mean_is offset n refl (self s (offset * n)) (h.0 ∙ sym (rounded_factor 2 s offset n (lit< tt) c.requires.fact_2 refl), h.1)

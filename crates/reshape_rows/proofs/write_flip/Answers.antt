@@ -12,7 +12,8 @@ put_after-requires-2 c =
     let Flipped : ℕ → Lent → Type 0 = λ k t. let g = c.args in
     Sofar (drop k (flip_rows_of (ring_of (lent g.valences.now g.rings.now)) g.p g.q g.a g.b)) (lent g.valences.now g.rings.now) t in
     let b-written : Flipped 3 (lent c.put_after.new.0 c.put_after.new.1.0) = put_on none_yet c.requires.at_b tt _ (c.put_after.ensures.rings_after, c.put_after.ensures.valences_after) in
-    record { ready = ready_on b-written c.requires.at_a (c.requires.apart.a_b, tt); x_lt_null_vertex = omega (arith, c.requires.b_lt) }
+    let e = c.requires in
+    record { ready = ready_on b-written e.at_a (e.apart.a_b, tt); x_lt_null_vertex = omega (arith, e.b_lt) }
 
 pub take_out-requires : goal.take_out-requires
 take_out-requires c =

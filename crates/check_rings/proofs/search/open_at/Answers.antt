@@ -13,7 +13,7 @@ pub ring_of-requires-then-follows_in : goal.ring_of-requires-then-follows_in
 ring_of-requires-then-follows_in c = search fit_row
 
 pub returns-then-follows_in : goal.returns-then-follows_in
-returns-then-follows_in c = search (open_last, fit_after)
+returns-then-follows_in c = search (open_last, fit_after) fits 30000
 
 pub returns : goal.returns
 returns c = search (open_no, fit_after)

@@ -9,4 +9,4 @@ pub coordinate_of-requires : goal.coordinate_of-requires
 coordinate_of-requires c = c.four_at.ensures.upper_bound
 
 pub returns : goal.returns
-returns c = to_z-of_z w32 c.coordinate_of.result (record { sfits = c.coordinate_of.type-inv }) ∙ c.coordinate_of.ensures ∙ ap coordinate_of c.four_at.ensures.value
+returns c = to_z-of_z w32 c.coordinate_of.result (record { sfits = c.coordinate_of.type_inv }) ∙ c.coordinate_of.ensures ∙ ap coordinate_of c.four_at.ensures.value

@@ -20,13 +20,14 @@ read_four-requires c =
 pub loop-i-preserved : goal.loop-i-preserved
 loop-i-preserved c =
     let a = c.args in
-    let t = c.loop-i-test.true in (
+    let t = c.loop-i-test.true in
+    let w = c.read_four.ensures in (
       omega arith,
       (
         let z = c.loop-i.invariant.1.0 in omega arith,
         (
-          put_length c.read_four.ensures ∙ c.loop-i.invariant.1.1.0,
-          from_next (neighbour_at a.bytes.now a.from) 4 c.loop-i.i 4 c.loop-i.invariant.1.1.1 c.read_four.ensures (omega (arith, length_part a.bytes.now a.from 4 c.loop-i.i)),
+          put_length w ∙ c.loop-i.invariant.1.1.0,
+          from_next (neighbour_at a.bytes.now a.from) 4 c.loop-i.i 4 c.loop-i.invariant.1.1.1 w (omega (arith, length_part a.bytes.now a.from 4 c.loop-i.i)),
         ),
       ),
     )

@@ -21,13 +21,14 @@ write_four-requires c =
 pub loop-i-preserved : goal.loop-i-preserved
 loop-i-preserved c =
     let a = c.args in
-    let t = c.loop-i-test.true in (
+    let t = c.loop-i-test.true in
+    let w = c.write_four.ensures in (
       omega arith,
       (
         let z = c.loop-i.invariant.1.0 in omega arith,
         (
           c.write_four.auto.0 ∙ c.loop-i.invariant.1.1.0,
-          from_next (neighbour_bytes a.ring.now) 4 c.loop-i.i 4 c.loop-i.invariant.1.1.1 c.write_four.ensures (omega (arith, length_part_bytes a.ring.now 4 c.loop-i.i)),
+          from_next (neighbour_bytes a.ring.now) 4 c.loop-i.i 4 c.loop-i.invariant.1.1.1 w (omega (arith, length_part_bytes a.ring.now 4 c.loop-i.i)),
         ),
       ),
     )

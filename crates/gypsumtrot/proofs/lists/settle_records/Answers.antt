@@ -4,4 +4,4 @@ use Rattle.c_answers.proofs.Crossed.{through}
 use Rattle.gypsumtrot.proofs.lists.settle_records.Goals as goal
 
 pub returns : goal.returns
-returns c = (through paper_amount c.of_amount.ensures c.settle.ensures.0, c.settle.ensures.1, c.settle.ensures.2)
+returns c = let e = c.settle.ensures in (through paper_amount c.of_amount.ensures e.0, e.1, e.2)

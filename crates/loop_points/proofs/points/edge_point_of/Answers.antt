@@ -5,20 +5,17 @@ use Rattle.loop_points.proofs.points.edge_point_of.Goals as goal
 pub edge_point-requires : goal.edge_point-requires
 edge_point-requires c =
     let n = c.requires.near in
-    let w = (c.requires.p_lt_count_1, (c.requires.p_lt_count_2, (c.requires.p_lt_count_3, c.requires.p_lt_count_4))) in
-    record { fact_1 = read_in (here_x n w.0 c.requires.here_value); fact_2 = read_in (read_x n w.1.0); fact_3 = read_in (read_x n w.1.1.0); fact_4 = read_in (read_x n w.1.1.1) }
+    record { fact_1 = read_in (here_x n c.requires.p_lt_count_1 c.requires.here_value); fact_2 = read_in (read_x n c.requires.p_lt_count_2); fact_3 = read_in (read_x n c.requires.p_lt_count_3); fact_4 = read_in (read_x n c.requires.p_lt_count_4) }
 
 pub edge_point-requires-2 : goal.edge_point-requires-2
 edge_point-requires-2 c =
     let n = c.requires.near in
-    let w = (c.requires.p_lt_count_1, (c.requires.p_lt_count_2, (c.requires.p_lt_count_3, c.requires.p_lt_count_4))) in
-    record { fact_1 = read_in (here_y n w.0 c.requires.here_value); fact_2 = read_in (read_y n w.1.0); fact_3 = read_in (read_y n w.1.1.0); fact_4 = read_in (read_y n w.1.1.1) }
+    record { fact_1 = read_in (here_y n c.requires.p_lt_count_1 c.requires.here_value); fact_2 = read_in (read_y n c.requires.p_lt_count_2); fact_3 = read_in (read_y n c.requires.p_lt_count_3); fact_4 = read_in (read_y n c.requires.p_lt_count_4) }
 
 pub edge_point-requires-3 : goal.edge_point-requires-3
 edge_point-requires-3 c =
     let n = c.requires.near in
-    let w = (c.requires.p_lt_count_1, (c.requires.p_lt_count_2, (c.requires.p_lt_count_3, c.requires.p_lt_count_4))) in
-    record { fact_1 = read_in (here_z n w.0 c.requires.here_value); fact_2 = read_in (read_z n w.1.0); fact_3 = read_in (read_z n w.1.1.0); fact_4 = read_in (read_z n w.1.1.1) }
+    record { fact_1 = read_in (here_z n c.requires.p_lt_count_1 c.requires.here_value); fact_2 = read_in (read_z n c.requires.p_lt_count_2); fact_3 = read_in (read_z n c.requires.p_lt_count_3); fact_4 = read_in (read_z n c.requires.p_lt_count_4) }
 
 pub returns : goal.returns
 returns c =

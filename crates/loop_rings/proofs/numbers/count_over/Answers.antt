@@ -9,6 +9,7 @@ use borrow.Author.Rules.{rules}
 use Rattle.mesh.specs.Mesh.{over}
 use Rattle.mesh.proofs.Overs.{over_skip, over_more}
 use Rattle.loop_rings.proofs.numbers.count_over.Goals as goal
+use Rattle.loop_rings.proofs.numbers.count_over.Goals.{then-p-ring, else-p-ring}
 
 pub loop-i-init : goal.loop-i-init
 loop-i-init c = (search rules, (search rules, refl))
@@ -20,10 +21,10 @@ pub loop-i-preserved : goal.loop-i-preserved
 loop-i-preserved c =
     let inv = c.loop-i.invariant in
     let l = c.loop-i-test.true in
-    ⊎_elim
-    (λ w. (omega arith, (omega arith, w.1 ∙ ap (λ n. n + 1) inv.1.1 ∙ sym (over_more _ _ _ l w.0.taken))))
-    (λ w. (omega arith, (omega arith, w.1 ∙ inv.1.1 ∙ sym (over_skip _ _ _ l w.0.left))))
-    c.if-p-ring.branch
+    elim c.if-p-ring.branch [
+      then-p-ring w ↦ (omega arith, (omega arith, w.count-is ∙ ap (λ n. n + 1) inv.1.1 ∙ sym (over_more _ _ _ l w.if-p-ring.true)))
+    | else-p-ring w ↦ (omega arith, (omega arith, w.count-is ∙ inv.1.1 ∙ sym (over_skip _ _ _ l w.if-p-ring.false)))
+    ]
 
 pub returns : goal.returns
 returns c =

@@ -5,6 +5,7 @@ use native.Mathlib.Omega.{arith}
 use borrow.Author.Rules.{rules}
 use Rattle.mesh.proofs.Overs.{least_none, least_low, least_high, least_new, least_end}
 use Rattle.loop_rings.proofs.numbers.place_over.Goals as goal
+use Rattle.loop_rings.proofs.numbers.place_over.Goals.{then-last-u+then-u-best, then-last-u+else-u-best, else-last-u}
 
 pub loop-i-init : goal.loop-i-init
 loop-i-init c = (search rules, least_none _ _ _)
@@ -18,15 +19,15 @@ loop-i-preserved c =
     let l = c.loop-i-test.true in
     let u = c.type_inv.ring c.loop-i.i in (
       omega arith,
-      ⊎_elim
-          (λ w. rw (w.2, w.3) (least_new inv.1 l w.0.taken w.1.taken))
-          (⊎_elim (λ w. rw (w.2, w.3) (least_high inv.1 l w.0.taken w.1.left (omega arith))) (λ w. rw (w.1, w.2) (least_low inv.1 l w.0.left)))
-          c.if-last-u.branch,
+      elim c.if-last-u.branch [
+        then-last-u+then-u-best w ↦ rw (w.best-is, w.at-is) (least_new inv.1 l w.if-last-u.true w.if-u-best.true)
+      | then-last-u+else-u-best w ↦ rw (w.best-is, w.at-is) (least_high inv.1 l w.if-last-u.true w.if-u-best.false (omega arith))
+      | else-last-u w ↦ rw (w.best-is, w.at-is) (least_low inv.1 l w.if-last-u.false)
+      ],
     )
 
 pub returns : goal.returns
 returns c =
-    let t = let inv = c.loop-i.invariant in
+    let inv = c.loop-i.invariant in
     let e = least_end inv.1 c.loop-i-test.false c.requires in
-    (omega arith, e.1) in
-    record { upper_bound = t.0; last_bound = t.1.0; ring_value = t.1.1 }
+    record { upper_bound = omega arith; last_bound = e.1.0; ring_value = e.1.1 }

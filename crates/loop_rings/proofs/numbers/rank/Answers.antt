@@ -9,6 +9,7 @@ use Rattle.mesh.specs.Numbering.{below}
 use Rattle.mesh.specs.Mesh.{over}
 use Rattle.mesh.proofs.Ranks.{rank_in, rank_low, rank_high}
 use Rattle.loop_rings.proofs.numbers.rank.Goals as goal
+use Rattle.loop_rings.proofs.numbers.rank.Goals.{then-p-u+then-u-q, then-p-u+else-u-q, else-p-u}
 
 pub loop-i-init : goal.loop-i-init
 loop-i-init c = (search rules, (search rules, refl))
@@ -20,12 +21,11 @@ pub loop-i-preserved : goal.loop-i-preserved
 loop-i-preserved c =
     let inv = c.loop-i.invariant in
     let l = c.loop-i-test.true in
-    ⊎_elim
-    (λ w. (omega arith, (omega arith, w.2 ∙ ap (λ n. n + 1) inv.1.1 ∙ sym (rank_in _ _ _ _ l w.0.taken w.1.taken))))
-    (⊎_elim
-    (λ w. (omega arith, (omega arith, w.2 ∙ inv.1.1 ∙ sym (rank_high _ _ _ _ l w.0.taken w.1.left))))
-    (λ w. (omega arith, (omega arith, w.1 ∙ inv.1.1 ∙ sym (rank_low _ _ _ _ l w.0.left)))))
-    c.if-p-u.branch
+    elim c.if-p-u.branch [
+      then-p-u+then-u-q w ↦ (omega arith, (omega arith, w.rank-is ∙ ap (λ n. n + 1) inv.1.1 ∙ sym (rank_in _ _ _ _ l w.if-p-u.true w.if-u-q.true)))
+    | then-p-u+else-u-q w ↦ (omega arith, (omega arith, w.rank-is ∙ inv.1.1 ∙ sym (rank_high _ _ _ _ l w.if-p-u.true w.if-u-q.false)))
+    | else-p-u w ↦ (omega arith, (omega arith, w.rank-is ∙ inv.1.1 ∙ sym (rank_low _ _ _ _ l w.if-p-u.false)))
+    ]
 
 pub returns : goal.returns
 returns c =

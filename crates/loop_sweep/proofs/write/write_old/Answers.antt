@@ -18,7 +18,8 @@ pub write_vertex-start-requires : goal.write_vertex-start-requires
 write_vertex-start-requires c =
     let most : let s = c.args in c.loop-p.p ≤ s.count + edges (rows s.count (lent s.valences.now s.rings.now)) = omega arith in
     let levels : Levels c.args.count (lent c.loop-p.valences c.loop-p.rings) c.loop-p.positions = done_levels c.requires c.loop-p.invariant.2 most in
-    record { levels = levels; p_lt_count = c.loop-p-test.true; start_value = c.loop-p.invariant.1 ∙ sym (done_start c.requires c.loop-p.invariant.2 most c.loop-p.p); has_old = done_has c.requires c.loop-p.invariant.2 most c.loop-p.p (omega arith) (omega arith) }
+    let L = c.requires in
+    record { levels = levels; p_lt_count = c.loop-p-test.true; start_value = c.loop-p.invariant.1 ∙ sym (done_start L c.loop-p.invariant.2 most c.loop-p.p); has_old = done_has L c.loop-p.invariant.2 most c.loop-p.p (omega arith) (omega arith) }
 
 pub offset_bounds-valences-p : goal.offset_bounds-valences-p
 offset_bounds-valences-p c =

@@ -28,20 +28,18 @@ top_le s n k h l =
 
 pub nearest-requires : goal.nearest-requires
 nearest-requires c =
-    let t = let k = c.args.shift in
+    let k = c.args.shift in
     let h = c.requires.fact_3 in
-    omega (arith, c.lifted-n.ensures, toward_le c.args.negative lift c.args.digits, one_is k h, one_lt k h, pow_pos k) in
-    record { fact_1 = t.0; fact_2 = t.1.0; fact_3 = t.1.1 }
+    record { fact_1 = omega (arith, c.lifted-n.ensures, toward_le c.args.negative lift c.args.digits, one_is k h, one_lt k h, pow_pos k); fact_2 = omega (arith, c.lifted-n.ensures, toward_le c.args.negative lift c.args.digits, one_is k h, one_lt k h, pow_pos k); fact_3 = omega (arith, c.lifted-n.ensures, toward_le c.args.negative lift c.args.digits, one_is k h, one_lt k h, pow_pos k) }
 
 pub difference-requires : goal.difference-requires
 difference-requires c =
-    let t = let k = c.args.shift in
+    let k = c.args.shift in
     let h = c.requires.fact_3 in
     let n = toward c.args.negative lift c.args.digits in
     let e : c.nearest.result ≡ round_nat n (2 ^ k) =
     c.nearest.ensures ∙ ap (λ (m : ℕ). round_nat m ((1 * 2 ^ k) % 18446744073709551616)) c.lifted-n.ensures ∙ ap (round_nat n) (one_is k h) in
-    omega (arith, e, round_nat_le (lift / 2 ^ k + most_units) n (2 ^ k) (pow_pos k) (top_le c.args.negative c.args.digits k h c.requires.fact_4), whole_le k c.requires.fact_2 h) in
-    record { fact_1 = t.0; fact_2 = t.1 }
+    record { fact_1 = omega (arith, e, round_nat_le (lift / 2 ^ k + most_units) n (2 ^ k) (pow_pos k) (top_le c.args.negative c.args.digits k h c.requires.fact_4), whole_le k c.requires.fact_2 h); fact_2 = omega (arith, e, round_nat_le (lift / 2 ^ k + most_units) n (2 ^ k) (pow_pos k) (top_le c.args.negative c.args.digits k h c.requires.fact_4), whole_le k c.requires.fact_2 h) }
 
 pub returns : goal.returns
 returns c =

@@ -15,9 +15,8 @@ overflow_sub-field c = omega (arith, (over_is c.args.bits c.requires c.if-field-
 
 pub scaled-requires : goal.scaled-requires
 scaled-requires c =
-    let t = let o = over_is c.args.bits c.requires c.if-field-lt-LEAST_FIELD.false in
-    omega (arith, o.upto, o.small) in
-    record { fact_1 = t.0; fact_2 = t.1.0; fact_3 = t.1.1.0; fact_4 = t.1.1.1 }
+    let o = over_is c.args.bits c.requires c.if-field-lt-LEAST_FIELD.false in
+    record { fact_1 = omega (arith, o.upto, o.small); fact_2 = omega (arith, o.upto, o.small); fact_3 = omega (arith, o.upto, o.small); fact_4 = omega (arith, o.upto, o.small) }
 
 pub returns : goal.returns
 returns c =

@@ -1,7 +1,11 @@
 -- `moves::is_finite` meets its contract. Assumes nothing.
-use lib.Ieee.{of_bits, neg}
+use lib.Ieee.{of_bits, nan_bits, neg}
 use Rattle.millimetres.proofs.MoveCases.{finite_up, finite_no}
 use Rattle.millimetres.proofs.moves.is_finite.Goals as goal
+
+pub float_from_bits-top : goal.float_from_bits-top
+unfolding nan_bits
+float_from_bits-top c = tt
 
 pub returns-then-x-top : goal.returns-then-x-top
 unfolding of_bits neg

@@ -31,18 +31,21 @@ pub far_end-b-requires : goal.far_end-b-requires
 far_end-b-requires c = c.requires.b
 
 pub point_of-here-requires : goal.point_of-here-requires
-point_of-here-requires c = let n = c.requires.near.points in let l = c.requires.low in omega arith
+point_of-here-requires c = let h = c.requires in let n = h.near.points in let l = h.low in omega arith
 
 pub edge_point_of-point-requires : goal.edge_point_of-point-requires
 edge_point_of-point-requires c =
     let h = c.requires in
+    let e = c.far_end-a.ensures in
+    let f = c.far_end-b.ensures in
     let k = h.a.known in
     let l = h.b.known in
     record { near = h.near; count_le_most_vertices = h.fits; here_value = c.point_of-here.ensures; p_lt_count_1 = h.low; p_lt_count_2 = h.high; p_lt_count_3 = omega arith; p_lt_count_4 = omega arith }
 
 pub set_point-requires : goal.set_point-requires
 set_point-requires c =
-    record { v_le_stack_bound = c.requires.small; v_in_bounds = c.requires.points }
+    let h = c.requires in
+    record { v_le_stack_bound = h.small; v_in_bounds = h.points }
 
 pub returns : goal.returns
 returns c =

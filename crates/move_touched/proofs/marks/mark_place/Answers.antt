@@ -24,16 +24,19 @@ opposite-requires c = c.requires.row
 pub overflow_add-start-3 : goal.overflow_add-start-3
 overflow_add-start-3 c =
     let m = c.requires.far.small in
+    let o = c.opposite.ensures in
     omega arith
 
 pub mark-requires-3 : goal.mark-requires-3
 mark-requires-3 c =
     let m = c.requires.far.room in
+    let o = c.opposite.ensures in
     let k = c.mark-2.auto.0 in
     let j = c.mark.auto.0 in
     omega arith
 
 pub returns : goal.returns
 returns c =
+    let o = c.opposite.ensures in
     let a = c.args in
-    three_joined _ a.start a.u a.x _ c.mark.ensures c.mark-2.ensures (rw c.opposite.ensures at c.mark-3.ensures)
+    three_joined _ a.start a.u a.x _ c.mark.ensures c.mark-2.ensures (rw o at c.mark-3.ensures)

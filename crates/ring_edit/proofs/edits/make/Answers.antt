@@ -24,6 +24,7 @@ write_ring-requires c =
 pub returns : goal.returns
 unfolding make_edit
 returns c =
-    let t = let accepted : let a = c.args in Accepted ≡ make_verdict a.count (lent a.valences.now a.rings.now) a.v a.list.now = sym c.in_default.is ∙ c.judge_make.ensures in
-    let e = accepted in (e, edit_done _ _ _ e refl _ refl _ _ c.write_ring.ensures.rings_after c.write_ring.ensures.valences_after) in
-    record { value = t.0; rings_after = t.1.0; valences_after = t.1.1 }
+    let a = c.args in
+    let e : Accepted ≡ make_verdict a.count (lent a.valences.now a.rings.now) a.v a.list.now = sym c.in_default.is ∙ c.judge_make.ensures in
+    let t = edit_done _ _ _ e refl _ refl _ _ c.write_ring.ensures.rings_after c.write_ring.ensures.valences_after in
+    record { value = e; rings_after = t.0; valences_after = t.1 }

@@ -32,8 +32,9 @@ pub first_strange_edge-x-requires : goal.first_strange_edge-x-requires
 first_strange_edge-x-requires c =
     let inv = c.loop-p.invariant in
     let l = c.loop-p-test.true in
+    let old = c.first_strange_old-old.ensures in
     let e = start_next c.requires.ready l _ inv.1.0 _ c.ring_of.ensures.result_value _ c.count_over.ensures.value in
-    record { ready = c.requires.ready; rings_in_bounds = c.requires.rings_in_bounds; has_old = has_old c.requires.ready _ _ (omega arith) (clear_to _ _ c.first_strange_old-old.ensures c.if-old-count.false); p_lt_count = l; start_value = inv.1.0; end_value = e; start_value_2 = clear_all inv.1.1 }
+    record { ready = c.requires.ready; rings_in_bounds = c.requires.rings_in_bounds; has_old = has_old c.requires.ready _ _ (omega arith) (clear_to _ _ old c.if-old-count.false); p_lt_count = l; start_value = inv.1.0; end_value = e; start_value_2 = clear_all inv.1.1 }
 
 pub overflow_add-count : goal.overflow_add-count
 overflow_add-count c =
