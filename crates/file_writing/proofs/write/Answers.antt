@@ -45,7 +45,7 @@ returns-then-file-size c =
 
 pub put_two-requires : goal.put_two-requires
 put_two-requires c =
-    let a = c.put_head.auto.0 in
+    let a = c.put_head.auto.file in
     let r = c.if-file-size.false in
     omega arith
 
@@ -54,17 +54,17 @@ put_rows-at-requires c =
     let held : let a = c.args in Stored a.count (lent a.valences.now a.rings.now) a.positions.now = stored _ _ _ c.args.file.now
     c.is_bad_count.ensures c.if-is_bad_count.false c.is_short.ensures
     c.if-is_short.false _ c.first_over-over.ensures c.if-over-count.false in
-    let a = c.put_head.auto.0 in
-    let d = c.put_two.auto.0 in
+    let a = c.put_head.auto.file in
+    let d = c.put_two.auto.file in
     let r = c.if-file-size.false in
     let s = c.rows_length-size.ensures.value in
     record { count_in_bounds = omega arith; stored = held }
 
 pub put_head-requires-2 : goal.put_head-requires-2
 put_head-requires-2 c =
-    let a = c.put_head.auto.0 in
-    let d = c.put_two.auto.0 in
-    let e = c.put_rows-at.auto.0 in
+    let a = c.put_head.auto.file in
+    let d = c.put_two.auto.file in
+    let e = c.put_rows-at.auto.file in
     let f = c.put_rows-at.ensures.value in
     let r = c.if-file-size.false in
     let s = c.rows_length-size.ensures.value in

@@ -13,8 +13,8 @@ pub fill_rows-requires : goal.fill_rows-requires
 fill_rows-requires c =
     let here : let a = c.args in
     let g = c.gather_faces.new.1.1.1.1.1.1 in
-    let rows = (from-gathered c).rows_of.result in
-    Reached a.text.now a.count a.at a.width rows c.over_row-j.result g.0 g.1.0 g.1.1.0 = reached c.requires.face_lines c.requires.tables (from-gathered c).rows_of.ensures c.gather_faces.ensures.gathered c.gather_faces.ensures.same_room c.over_row-j.ensures in
+    let rows = c.rows_of-rows.result in
+    Reached a.text.now a.count a.at a.width rows c.over_row-j.result g.0 g.1.0 g.1.1.0 = reached c.requires.face_lines c.requires.tables c.rows_of-rows.ensures c.gather_faces.ensures.gathered c.gather_faces.ensures.same_room c.over_row-j.ensures in
     let r = here in
     record { fillable = c.requires.fillable; rows_bound = rows_within r c.requires.at_lt_count; room = rows_room r; gathered = rows_gathered r; narrow = rows_narrow r }
 
@@ -22,51 +22,41 @@ pub overflow_add-result : goal.overflow_add-result
 overflow_add-result c =
     let here : let a = c.args in
     let g = c.gather_faces.new.1.1.1.1.1.1 in
-    let rows = (from-gathered c).rows_of.result in
-    Reached a.text.now a.count a.at a.width rows c.over_row-j.result g.0 g.1.0 g.1.1.0 = reached c.requires.face_lines c.requires.tables (from-gathered c).rows_of.ensures c.gather_faces.ensures.gathered c.gather_faces.ensures.same_room c.over_row-j.ensures in
-    let o = c in
-    let p = (start o).requires in
-    omega (arith, rows_within (here o) p.1.1.1.1, p.1.1.0.few)
+    let rows = c.rows_of-rows.result in
+    Reached a.text.now a.count a.at a.width rows c.over_row-j.result g.0 g.1.0 g.1.1.0 = reached c.requires.face_lines c.requires.tables c.rows_of-rows.ensures c.gather_faces.ensures.gathered c.gather_faces.ensures.same_room c.over_row-j.ensures in
+    omega (arith, rows_within here c.requires.at_lt_count, c.requires.fillable.few)
 
 pub narrower-requires : goal.narrower-requires
-narrower-requires c = c.requires.1.1.1.0
+narrower-requires c = c.requires.width
 
 pub returns-then-rows-j : goal.returns-then-rows-j
 returns-then-rows-j c =
     let here : let a = c.args in
     let g = c.gather_faces.new.1.1.1.1.1.1 in
-    let rows = (from-gathered c).rows_of.result in
-    Reached a.text.now a.count a.at a.width rows c.over_row-j.result g.0 g.1.0 g.1.1.0 = reached c.requires.face_lines c.requires.tables (from-gathered c).rows_of.ensures c.gather_faces.ensures.gathered c.gather_faces.ensures.same_room c.over_row-j.ensures in
-    let o = c in
-    let p = (start o).requires in
-    record { stepped = stepped_full (here o) p.1.1.1.1 p.1.1.1.0 c.narrower.ensures c.fill_rows.ensures c.if-rows-j.true; same_room = (from-over o).gather-faces.ensures.1 }
+    let rows = c.rows_of-rows.result in
+    Reached a.text.now a.count a.at a.width rows c.over_row-j.result g.0 g.1.0 g.1.1.0 = reached c.requires.face_lines c.requires.tables c.rows_of-rows.ensures c.gather_faces.ensures.gathered c.gather_faces.ensures.same_room c.over_row-j.ensures in
+    record { stepped = stepped_full here c.requires.at_lt_count c.requires.width c.narrower.ensures c.fill_rows.ensures c.if-rows-j.true; same_room = c.gather_faces.ensures.same_room }
 
 pub overflow_add-result-2 : goal.overflow_add-result-2
 overflow_add-result-2 c =
     let here : let a = c.args in
     let g = c.gather_faces.new.1.1.1.1.1.1 in
-    let rows = (from-gathered c).rows_of.result in
-    Reached a.text.now a.count a.at a.width rows c.over_row-j.result g.0 g.1.0 g.1.1.0 = reached c.requires.face_lines c.requires.tables (from-gathered c).rows_of.ensures c.gather_faces.ensures.gathered c.gather_faces.ensures.same_room c.over_row-j.ensures in
-    let o = c in
-    let p = (start o).requires in
-    omega (arith, rows_within (here o) p.1.1.1.1, p.1.1.0.few)
+    let rows = c.rows_of-rows.result in
+    Reached a.text.now a.count a.at a.width rows c.over_row-j.result g.0 g.1.0 g.1.1.0 = reached c.requires.face_lines c.requires.tables c.rows_of-rows.ensures c.gather_faces.ensures.gathered c.gather_faces.ensures.same_room c.over_row-j.ensures in
+    omega (arith, rows_within here c.requires.at_lt_count, c.requires.fillable.few)
 
 pub wider-requires : goal.wider-requires
 wider-requires c =
     let here : let a = c.args in
     let g = c.gather_faces.new.1.1.1.1.1.1 in
-    let rows = (from-gathered c).rows_of.result in
-    Reached a.text.now a.count a.at a.width rows c.over_row-j.result g.0 g.1.0 g.1.1.0 = reached c.requires.face_lines c.requires.tables (from-gathered c).rows_of.ensures c.gather_faces.ensures.gathered c.gather_faces.ensures.same_room c.over_row-j.ensures in
-    let o = c in
-    let p = (start o).requires in
-    record { width = p.1.1.1.0; width_lt_places = over_narrow (here o) p.1.1.0 p.1.1.1.1 c.if-rows-j.false }
+    let rows = c.rows_of-rows.result in
+    Reached a.text.now a.count a.at a.width rows c.over_row-j.result g.0 g.1.0 g.1.1.0 = reached c.requires.face_lines c.requires.tables c.rows_of-rows.ensures c.gather_faces.ensures.gathered c.gather_faces.ensures.same_room c.over_row-j.ensures in
+    record { width = c.requires.width; width_lt_places = over_narrow here c.requires.fillable c.requires.at_lt_count c.if-rows-j.false }
 
 pub returns : goal.returns
 returns c =
     let here : let a = c.args in
     let g = c.gather_faces.new.1.1.1.1.1.1 in
-    let rows = (from-gathered c).rows_of.result in
-    Reached a.text.now a.count a.at a.width rows c.over_row-j.result g.0 g.1.0 g.1.1.0 = reached c.requires.face_lines c.requires.tables (from-gathered c).rows_of.ensures c.gather_faces.ensures.gathered c.gather_faces.ensures.same_room c.over_row-j.ensures in
-    let o = c in
-    let p = (start o).requires in
-    record { stepped = stepped_over (here o) p.1.1.1.1 p.1.1.1.0 c.wider.ensures.width_2 c.fill_rows.ensures c.wider.ensures.lower_bound; same_room = (from-over o).gather-faces.ensures.1 }
+    let rows = c.rows_of-rows.result in
+    Reached a.text.now a.count a.at a.width rows c.over_row-j.result g.0 g.1.0 g.1.1.0 = reached c.requires.face_lines c.requires.tables c.rows_of-rows.ensures c.gather_faces.ensures.gathered c.gather_faces.ensures.same_room c.over_row-j.ensures in
+    record { stepped = stepped_over here c.requires.at_lt_count c.requires.width c.wider.ensures.width_2 c.fill_rows.ensures c.wider.ensures.lower_bound; same_room = c.gather_faces.ensures.same_room }

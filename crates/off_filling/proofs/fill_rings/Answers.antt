@@ -16,7 +16,7 @@ loop-at-smaller c = c.fill_block-step.ensures.stepped.nearer
 
 pub loop-at-preserved : goal.loop-at-preserved
 loop-at-preserved c =
-    passed_more c.loop-at.inv c.requires.1.1 c.fill_block-step.ensures.stepped c.fill_block-step.ensures.same_room
+    passed_more c.loop-at.invariant c.requires.fillable c.fill_block-step.ensures.stepped c.fill_block-step.ensures.same_room
 
 pub returns : goal.returns
 returns c = passed_all c.loop-at.invariant c.loop-at-test.false

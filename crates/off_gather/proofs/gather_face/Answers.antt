@@ -9,27 +9,21 @@ note_in-requires c =
 
 pub note_in-requires-2 : goal.note_in-requires-2
 note_in-requires-2 c =
-    let p = c.requires in
-    let small = small_enough p.0 c.corners_at-f.ensures in
+    let small = small_enough c.requires.face_line c.corners_at-f.ensures in
     let n₁ = c.note_in.ensures in
-    record { room = room_noted n₁ p.1.0; low = low_one _ _ _ _ _ p.0.number p.1.1 n₁; x_lt_place_bound = small.1.0; w_lt_place_bound = small.0 }
+    record { room = room_noted n₁ c.requires.room; low = low_one _ _ _ _ _ c.requires.face_line.number c.requires.gathered n₁; x_lt_place_bound = small.1.0; w_lt_place_bound = small.0 }
 
 pub note_in-requires-3 : goal.note_in-requires-3
 note_in-requires-3 c =
-    let k = c in
-    let p = (from-corners k).requires in
-    let small = small_enough p.0 k.corners-at.ensures in
+    let small = small_enough c.requires.face_line c.corners_at-f.ensures in
     let n₁ = c.note_in.ensures in
     let n₂ = c.note_in-2.ensures in
-    record { room = room_noted n₂ (room_noted n₁ p.1.0); low = low_two _ _ _ _ _ p.0.number p.1.1 n₁ n₂; x_lt_place_bound = small.1.1; w_lt_place_bound = small.1.0 }
+    record { room = room_noted n₂ (room_noted n₁ c.requires.room); low = low_two _ _ _ _ _ c.requires.face_line.number c.requires.gathered n₁ n₂; x_lt_place_bound = small.1.1; w_lt_place_bound = small.1.0 }
 
 pub returns : goal.returns
 returns c =
-    let one = c in
-    let k = from_one one in
-    let p = (from-corners k).requires in
-    let n₁ = one.note-in.ensures in
+    let n₁ = c.note_in.ensures in
     let n₂ = c.note_in-2.ensures in
     let n₃ = c.note_in-3.ensures in
-    let g = gathered_more _ _ _ _ _ _ _ _ _ _ p.0.begins p.0.good k.corners-at.ensures p.1.1 n₁ n₂ n₃ in
+    let g = gathered_more _ _ _ _ _ _ _ _ _ _ c.requires.face_line.begins c.requires.face_line.good c.corners_at-f.ensures c.requires.gathered n₁ n₂ n₃ in
     record { value = g.0; same_room = same_three n₁ n₂ n₃; gathered_2 = g.1 }

@@ -16,12 +16,12 @@ loop-i-init c =
 pub gather_face-at-requires : goal.gather_face-at-requires
 gather_face-at-requires c =
     let i = c.loop-i.invariant in
-    record { face_line = face_line_lem c.requires.0 c.loop-i-test.true i.1.0; room = i.1.1.0; gathered = i.1.1.1.1 }
+    record { face_line = face_line_lem c.requires.face_lines c.loop-i-test.true i.1.0; room = i.1.1.0; gathered = i.1.1.1.1 }
 
 pub loop-i-preserved : goal.loop-i-preserved
 loop-i-preserved c =
-    let i = c.loop-i.inv in
-    (omega (arith, c.loop-i-test.taken), (c.gather_face-at.ensures.value, (room_same c.gather_face-at.ensures.same_room i.1.1.0, (same_more i.1.1.1.0 c.gather_face-at.ensures.same_room, c.gather_face-at.ensures.gathered_2))))
+    let i = c.loop-i.invariant in
+    (omega (arith, c.loop-i-test.true), (c.gather_face-at.ensures.value, (room_same c.gather_face-at.ensures.same_room i.1.1.0, (same_more i.1.1.1.0 c.gather_face-at.ensures.same_room, c.gather_face-at.ensures.gathered_2))))
 
 pub returns : goal.returns
 returns c =

@@ -14,81 +14,61 @@ gather_faces-requires c =
 
 pub stop_row-j-requires : goal.stop_row-j-requires
 stop_row-j-requires c =
-    let p = c.requires in
-    record { count_value = p.0; room = room_same c.gather_faces.ensures.same_room (tables_room c.rows_of-rows.ensures p.1.1.0); gathered = gathered_all p.1.0 c.gather_faces.ensures.gathered }
+    record { count_value = c.requires.count_value; room = room_same c.gather_faces.ensures.same_room (tables_room c.rows_of-rows.ensures c.requires.tables); gathered = gathered_all c.requires.face_lines c.gather_faces.ensures.gathered }
 
 pub first_unfit-unfit-requires : goal.first_unfit-unfit-requires
 first_unfit-unfit-requires c =
-    let t = let r = c in
-    let p = (from-rows r).requires in
-    rows_passed (from-rows r).args.text.now r.rows_of.ensures p.1.1.0 c.gather_faces.ensures.same_room p.1.1.1.1 c.stop_row-j.ensures in
+    let t = rows_passed c.args.text.now c.rows_of-rows.ensures c.requires.tables c.gather_faces.ensures.same_room c.requires.at_lt_count c.stop_row-j.ensures in
     record { rows_in_bounds = t.0; rows_bound = t.1 }
 
 pub overflow_add-result : goal.overflow_add-result
 overflow_add-result c =
-    let m = c in
-    let r = from-gathered m in
-    let p = (from-rows r).requires in
     omega (
       arith,
-      (rows_passed (from-rows r).args.text.now r.rows_of.ensures p.1.1.0 m.gather-faces.ensures.1
-          p.1.1.1.1 c.stop_row-j.ensures).1,
+      (rows_passed c.args.text.now c.rows_of-rows.ensures c.requires.tables c.gather_faces.ensures.same_room
+          c.requires.at_lt_count c.stop_row-j.ensures).1,
     )
 
 pub narrower-requires : goal.narrower-requires
-narrower-requires c = (from-rows (from-gathered c)).requires.1.1.1.0.wide
+narrower-requires c = c.requires.sofar.wide
 
 pub returns-then-rows-j : goal.returns-then-rows-j
 returns-then-rows-j c =
-    let m = c in
-    let r = from-gathered m in
-    let p = (from-rows r).requires in
     record {
-      stepped = stepped_past p.1.0 m.gather-faces.ensures.0 p.1.1.1.0 r.rows_of.ensures
-          p.0 p.1.1.1.1 c.stop_row-j.ensures c.first_unfit-unfit.ensures c.if-rows-j.true c.narrower.ensures;
-      same_room = m.gather-faces.ensures.1;
+      stepped = stepped_past c.requires.face_lines c.gather_faces.ensures.gathered c.requires.sofar c.rows_of-rows.ensures
+          c.requires.count_value c.requires.at_lt_count c.stop_row-j.ensures c.first_unfit-unfit.ensures c.if-rows-j.true c.narrower.ensures;
+      same_room = c.gather_faces.ensures.same_room;
     }
 
 pub bounds-counts-j : goal.bounds-counts-j
 bounds-counts-j c =
-    let m = c in
-    let r = from-gathered m in
-    row_counts (room_same m.gather-faces.ensures.1 (tables_room r.rows_of.ensures (from-rows r).requires.1.1.0)) c.if-rows-j.false
+    row_counts (room_same c.gather_faces.ensures.same_room (tables_room c.rows_of-rows.ensures c.requires.tables)) c.if-rows-j.false
 
 pub returns-then-counts-j : goal.returns-then-counts-j
 returns-then-counts-j c =
-    let m = c in
-    let r = from-gathered m in
-    let p = (from-rows r).requires in
     record {
-      stepped = stepped_narrow p.1.0 m.gather-faces.ensures.0 p.1.1.1.0 r.rows_of.ensures
-          p.0 p.1.1.1.1 c.stop_row-j.ensures c.first_unfit-unfit.ensures c.if-rows-j.false c.if-counts-j.true;
-      same_room = m.gather-faces.ensures.1;
+      stepped = stepped_narrow c.requires.face_lines c.gather_faces.ensures.gathered c.requires.sofar c.rows_of-rows.ensures
+          c.requires.count_value c.requires.at_lt_count c.stop_row-j.ensures c.first_unfit-unfit.ensures c.if-rows-j.false c.if-counts-j.true;
+      same_room = c.gather_faces.ensures.same_room;
     }
 
 pub returns-then-width-ge-PLACES : goal.returns-then-width-ge-PLACES
 returns-then-width-ge-PLACES c =
-    let m = c in
-    let r = from-gathered m in
-    let p = (from-rows r).requires in
     record {
-      stepped = stepped_wide p.1.0 m.gather-faces.ensures.0 p.1.1.1.0 r.rows_of.ensures
-          p.0 p.1.1.1.1 c.stop_row-j.ensures c.first_unfit-unfit.ensures c.if-rows-j.false c.if-width-ge-PLACES.true c.if-counts-j.false;
-      same_room = m.gather-faces.ensures.1;
+      stepped = stepped_wide c.requires.face_lines c.gather_faces.ensures.gathered c.requires.sofar c.rows_of-rows.ensures
+          c.requires.count_value c.requires.at_lt_count c.stop_row-j.ensures c.first_unfit-unfit.ensures c.if-rows-j.false c.if-width-ge-PLACES.true c.if-counts-j.false;
+      same_room = c.gather_faces.ensures.same_room;
     }
 
 pub wider-requires : goal.wider-requires
 wider-requires c =
-    record { width = (from-rows (from-gathered c)).requires.1.1.1.0.wide; width_lt_places = c.if-width-ge-PLACES.false }
+    record { width = c.requires.sofar.wide; width_lt_places = c.if-width-ge-PLACES.false }
 
 pub returns : goal.returns
 returns c =
-    let m = c in
-    let r = from-gathered m in
-    let p = (from-rows r).requires in
     record {
-      stepped = stepped_wider p.1.0 m.gather-faces.ensures.0 p.1.1.1.0 r.rows_of.ensures
-          p.0 p.1.1.1.1 c.stop_row-j.ensures c.first_unfit-unfit.ensures
+      stepped = stepped_wider c.requires.face_lines c.gather_faces.ensures.gathered c.requires.sofar c.rows_of-rows.ensures
+          c.requires.count_value c.requires.at_lt_count c.stop_row-j.ensures c.first_unfit-unfit.ensures
           c.if-rows-j.false c.wider.ensures.width_2 c.wider.ensures.lower_bound;
-      same_room = m.gather-faces.ensures.1;
+      same_room = c.gather_faces.ensures.same_room;
     }

@@ -30,22 +30,20 @@ closes-requires c = c.row_of.ensures.result_len ∙ sym c.row_of-in-loop-j.ensur
 
 pub returns-then-not-closes : goal.returns-then-not-closes
 returns-then-not-closes c =
-    let judged : let a = (from-loop c).args in
-    stops a.text.now a.width a.first c.loop-j.j ≡ not c.closes.result = let p = (from-loop c).requires in
-    let l = c.loop-j-test.true in
+    let judged : let a = c.args in
+    stops a.text.now a.width a.first c.loop-j.j ≡ not c.closes.result = let l = c.loop-j-test.true in
     let n = c.if-width-n.false in
-    row_judged p.1.1 l p.1.0 n p.0 c.row_of.ensures.result_value c.row_of-in-loop-j.ensures.result_value c.closes.ensures in
+    row_judged c.requires.gathered l c.requires.room n c.requires.count_value c.row_of.ensures.result_value c.row_of-in-loop-j.ensures.result_value c.closes.ensures in
     let l = c.loop-j-test.true in
-    first_is c.loop-j.inv.1 l (judged ∙ c.if-not-closes.true-raw)
+    first_is c.loop-j.invariant.1 l (judged ∙ c.if-not-closes.true-raw)
 
 pub loop-j-preserved : goal.loop-j-preserved
 loop-j-preserved c =
-    let judged : let a = (from-loop c).args in
-    stops a.text.now a.width a.first c.loop-j.j ≡ not c.closes.result = let p = (from-loop c).requires in
-    let l = c.loop-j-test.true in
+    let judged : let a = c.args in
+    stops a.text.now a.width a.first c.loop-j.j ≡ not c.closes.result = let l = c.loop-j-test.true in
     let n = c.if-width-n.false in
-    row_judged p.1.1 l p.1.0 n p.0 c.row_of.ensures.result_value c.row_of-in-loop-j.ensures.result_value c.closes.ensures in
-    (omega arith, clear_more c.loop-j.inv.1 (judged ∙ c.if-not-closes.false-raw))
+    row_judged c.requires.gathered l c.requires.room n c.requires.count_value c.row_of.ensures.result_value c.row_of-in-loop-j.ensures.result_value c.closes.ensures in
+    (omega arith, clear_more c.loop-j.invariant.1 (judged ∙ c.if-not-closes.false-raw))
 
 pub returns : goal.returns
 returns c = let inv = c.loop-j.invariant in first_end inv.1 inv.0 c.loop-j-test.false

@@ -22,40 +22,40 @@ returns-in_default c =
 
 pub past_vertices-vertices-requires : goal.past_vertices-vertices-requires
 past_vertices-vertices-requires c =
-    let heads : HeadFound (from-word c).args.text.now
+    let heads : HeadFound c.args.text.now
     c.in-Of.count c.in-Of.faces c.in-Of.next = head_found _ _ _ _ (sym c.in-Of.is ∙ c.head_of.ensures) in
     record { from_value = heads.next_is; from_in_bounds = heads.within }
 
 pub overflow_add-result : goal.overflow_add-result
 overflow_add-result c =
-    let heads : HeadFound (from-word c).args.text.now
+    let heads : HeadFound c.args.text.now
     c.in-Of.count c.in-Of.faces c.in-Of.next = head_found _ _ _ _ (sym c.in-Of.is ∙ c.head_of.ensures) in
     omega (arith, heads.count_small, c.if-v-count.true)
 
 pub returns-then-v-count : goal.returns-then-v-count
 returns-then-v-count c =
     let opens : is_word c.args.text.now ≡ true = sym c.is_word.ensures ∙ c.if-not-is_word.false in
-    let heads : HeadFound (from-word c).args.text.now
+    let heads : HeadFound c.args.text.now
     c.in-Of.count c.in-Of.faces c.in-Of.next = head_found _ _ _ _ (sym c.in-Of.is ∙ c.head_of.ensures) in
     judged_vertex _ opens _ _ _ heads _ _ c.past_vertices-vertices.ensures c.if-v-count.true
 
 pub past_faces-lines-requires : goal.past_faces-lines-requires
 past_faces-lines-requires c =
     let opens : is_word c.args.text.now ≡ true = sym c.is_word.ensures ∙ c.if-not-is_word.false in
-    let heads : HeadFound (from-word c).args.text.now
+    let heads : HeadFound c.args.text.now
     c.in-Of.count c.in-Of.faces c.in-Of.next = head_found _ _ _ _ (sym c.in-Of.is ∙ c.head_of.ensures) in
     let p = c.past_vertices-vertices.ensures in
     record { from_value = faces_begin _ opens _ _ _ heads _ _ p c.if-v-count.false; from_in_bounds = p.within; count_value = heads.count_is }
 
 pub overflow_add-result-then-i-faces : goal.overflow_add-result-then-i-faces
 overflow_add-result-then-i-faces c =
-    let heads : HeadFound (from-word c).args.text.now
+    let heads : HeadFound c.args.text.now
     c.in-Of.count c.in-Of.faces c.in-Of.next = head_found _ _ _ _ (sym c.in-Of.is ∙ c.head_of.ensures) in
     omega (arith, heads.count_small)
 
 pub overflow_add-result-then-i-faces-2 : goal.overflow_add-result-then-i-faces-2
 overflow_add-result-then-i-faces-2 c =
-    let heads : HeadFound (from-word c).args.text.now
+    let heads : HeadFound c.args.text.now
     c.in-Of.count c.in-Of.faces c.in-Of.next = head_found _ _ _ _ (sym c.in-Of.is ∙ c.head_of.ensures) in
     let h = heads in
     omega (arith, h.count_small, h.faces_small, c.if-i-faces.true)
@@ -63,7 +63,7 @@ overflow_add-result-then-i-faces-2 c =
 pub returns-then-i-faces : goal.returns-then-i-faces
 returns-then-i-faces c =
     let opens : is_word c.args.text.now ≡ true = sym c.is_word.ensures ∙ c.if-not-is_word.false in
-    let heads : HeadFound (from-word c).args.text.now
+    let heads : HeadFound c.args.text.now
     c.in-Of.count c.in-Of.faces c.in-Of.next = head_found _ _ _ _ (sym c.in-Of.is ∙ c.head_of.ensures) in
     judged_face _ opens _ _ _ heads _ _ c.past_vertices-vertices.ensures c.if-v-count.false
     _
@@ -73,13 +73,13 @@ returns-then-i-faces c =
 
 pub overflow_add-result-then-lines-text : goal.overflow_add-result-then-lines-text
 overflow_add-result-then-lines-text c =
-    let heads : HeadFound (from-word c).args.text.now
+    let heads : HeadFound c.args.text.now
     c.in-Of.count c.in-Of.faces c.in-Of.next = head_found _ _ _ _ (sym c.in-Of.is ∙ c.head_of.ensures) in
     omega (arith, heads.count_small)
 
 pub overflow_add-result-then-lines-text-2 : goal.overflow_add-result-then-lines-text-2
 overflow_add-result-then-lines-text-2 c =
-    let heads : HeadFound (from-word c).args.text.now
+    let heads : HeadFound c.args.text.now
     c.in-Of.count c.in-Of.faces c.in-Of.next = head_found _ _ _ _ (sym c.in-Of.is ∙ c.head_of.ensures) in
     let h = heads in
     omega (arith, h.count_small, h.faces_small)
@@ -87,10 +87,9 @@ overflow_add-result-then-lines-text-2 c =
 pub returns-then-lines-text : goal.returns-then-lines-text
 returns-then-lines-text c =
     let opens : is_word c.args.text.now ≡ true = sym c.is_word.ensures ∙ c.if-not-is_word.false in
-    let heads : HeadFound (from-word c).args.text.now
+    let heads : HeadFound c.args.text.now
     c.in-Of.count c.in-Of.faces c.in-Of.next = head_found _ _ _ _ (sym c.in-Of.is ∙ c.head_of.ensures) in
-    let d = c in
-    judged_end _ (opens (from-head d)) _ _ _ (heads d) _ _ c.past_vertices-vertices.ensures c.if-v-count.left
+    judged_end _ opens _ _ _ heads _ _ c.past_vertices-vertices.ensures c.if-v-count.false
     _
     _
     c.past_faces-lines.ensures
@@ -100,10 +99,9 @@ returns-then-lines-text c =
 pub returns : goal.returns
 returns c =
     let opens : is_word c.args.text.now ≡ true = sym c.is_word.ensures ∙ c.if-not-is_word.false in
-    let heads : HeadFound (from-word c).args.text.now
+    let heads : HeadFound c.args.text.now
     c.in-Of.count c.in-Of.faces c.in-Of.next = head_found _ _ _ _ (sym c.in-Of.is ∙ c.head_of.ensures) in
-    let d = c in
-    judged_whole _ (opens (from-head d)) _ _ _ (heads d) _ _ c.past_vertices-vertices.ensures c.if-v-count.left
+    judged_whole _ opens _ _ _ heads _ _ c.past_vertices-vertices.ensures c.if-v-count.false
     _
     _
     c.past_faces-lines.ensures

@@ -29,30 +29,30 @@ returns-in_default c =
 
 pub number_at-requires-2 : goal.number_at-requires-2
 number_at-requires-2 c =
-    let found : let s = (from-three c).args in
+    let found : let s = c.args in
     NumberFound s.text.now (s.at + 2) 4294967296 32 c.in-Of.a c.in-Of.first = number_found _ _ _ _ _ _ (sym c.in-Of.is ∙ c.number_at.ensures) (omega arith) in
     record { at_in_bounds = found.within; last_nonzero = omega arith }
 
 pub returns-in_default-number_at : goal.returns-in_default-number_at
 returns-in_default-number_at c =
     let three : is_three c.args.text.now c.args.at ≡ true = sym c.is_three.ensures ∙ c.if-not-is_three.false in
-    let found : let s = (from-three c).args in
+    let found : let s = c.args in
     NumberFound s.text.now (s.at + 2) 4294967296 32 c.in-Of.a c.in-Of.first = number_found _ _ _ _ _ _ (sym c.in-Of.is ∙ c.number_at.ensures) (omega arith) in
     face_second _ _ three _ _ found
     (number_missing _ _ _ _ (sym c.in_default-number_at.is ∙ c.number_at-2.ensures))
 
 pub number_at-requires-3 : goal.number_at-requires-3
 number_at-requires-3 c =
-    let found-2 : NumberFound (from-three (from_a c)).args.text.now c.in-Of.first
+    let found-2 : NumberFound c.args.text.now c.in-Of.first
     4294967296 32 c.in-Of-number_at.b c.in-Of-number_at.second = number_found _ _ _ _ _ _ (sym c.in-Of-number_at.is ∙ c.number_at-2.ensures) (omega arith) in
     record { at_in_bounds = found-2.within; last_nonzero = omega arith }
 
 pub returns-in_default-number_at-2 : goal.returns-in_default-number_at-2
 returns-in_default-number_at-2 c =
     let three : is_three c.args.text.now c.args.at ≡ true = sym c.is_three.ensures ∙ c.if-not-is_three.false in
-    let found : let s = (from-three c).args in
+    let found : let s = c.args in
     NumberFound s.text.now (s.at + 2) 4294967296 32 c.in-Of.a c.in-Of.first = number_found _ _ _ _ _ _ (sym c.in-Of.is ∙ c.number_at.ensures) (omega arith) in
-    let found-2 : NumberFound (from-three (from_a c)).args.text.now c.in-Of.first
+    let found-2 : NumberFound c.args.text.now c.in-Of.first
     4294967296 32 c.in-Of-number_at.b c.in-Of-number_at.second = number_found _ _ _ _ _ _ (sym c.in-Of-number_at.is ∙ c.number_at-2.ensures) (omega arith) in
     face_third _ _ three _ _ found _ _ found-2
     (number_missing _ _ _ _ (sym c.in_default-number_at-2.is ∙ c.number_at-3.ensures))
@@ -60,29 +60,25 @@ returns-in_default-number_at-2 c =
 pub returns-then-is_bad_face : goal.returns-then-is_bad_face
 returns-then-is_bad_face c =
     let three : is_three c.args.text.now c.args.at ≡ true = sym c.is_three.ensures ∙ c.if-not-is_three.false in
-    let found : let s = (from-three c).args in
+    let found : let s = c.args in
     NumberFound s.text.now (s.at + 2) 4294967296 32 c.in-Of.a c.in-Of.first = number_found _ _ _ _ _ _ (sym c.in-Of.is ∙ c.number_at.ensures) (omega arith) in
-    let found-2 : NumberFound (from-three (from_a c)).args.text.now c.in-Of.first
+    let found-2 : NumberFound c.args.text.now c.in-Of.first
     4294967296 32 c.in-Of-number_at.b c.in-Of-number_at.second = number_found _ _ _ _ _ _ (sym c.in-Of-number_at.is ∙ c.number_at-2.ensures) (omega arith) in
-    let found-3 : NumberFound (from-three (from_a (from_b c))).args.text.now c.in-Of-number_at.second
+    let found-3 : NumberFound c.args.text.now c.in-Of-number_at.second
     4294967296 10 c.in-Of-number_at-2.c c.in-Of-number_at-2.third = number_found _ _ _ _ _ _ (sym c.in-Of-number_at-2.is ∙ c.number_at-3.ensures) (omega arith) in
-    let d = c in
-    let b = from_a d in
-    face_bad _ _ (three b) _ _ (found d) _ _ found-2 _ _ found-3 _ (from-three b).requires.1 _
+    face_bad _ _ three _ _ found _ _ found-2 _ _ found-3 _ c.requires.count_value _
     c.is_bad_face.ensures
     c.if-is_bad_face.true
 
 pub returns : goal.returns
 returns c =
     let three : is_three c.args.text.now c.args.at ≡ true = sym c.is_three.ensures ∙ c.if-not-is_three.false in
-    let found : let s = (from-three c).args in
+    let found : let s = c.args in
     NumberFound s.text.now (s.at + 2) 4294967296 32 c.in-Of.a c.in-Of.first = number_found _ _ _ _ _ _ (sym c.in-Of.is ∙ c.number_at.ensures) (omega arith) in
-    let found-2 : NumberFound (from-three (from_a c)).args.text.now c.in-Of.first
+    let found-2 : NumberFound c.args.text.now c.in-Of.first
     4294967296 32 c.in-Of-number_at.b c.in-Of-number_at.second = number_found _ _ _ _ _ _ (sym c.in-Of-number_at.is ∙ c.number_at-2.ensures) (omega arith) in
-    let found-3 : NumberFound (from-three (from_a (from_b c))).args.text.now c.in-Of-number_at.second
+    let found-3 : NumberFound c.args.text.now c.in-Of-number_at.second
     4294967296 10 c.in-Of-number_at-2.c c.in-Of-number_at-2.third = number_found _ _ _ _ _ _ (sym c.in-Of-number_at-2.is ∙ c.number_at-3.ensures) (omega arith) in
-    let d = c in
-    let b = from_a d in
-    face_is _ _ (three b) _ _ (found d) _ _ found-2 _ _ found-3 _ (from-three b).requires.1 _
+    face_is _ _ three _ _ found _ _ found-2 _ _ found-3 _ c.requires.count_value _
     c.is_bad_face.ensures
     c.if-is_bad_face.false

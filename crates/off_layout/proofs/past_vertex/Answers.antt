@@ -20,11 +20,11 @@ returns-in_default-past_unit c =
 
 pub past_unit-requires-3 : goal.past_unit-requires-3
 past_unit-requires-3 c =
-    let found-2 : UnitFound (from-y c).args.text.now c.in-To.y 32 c.in-To-past_unit.z = unit_found _ _ _ _ (sym c.in-To-past_unit.is ∙ c.past_unit-2.ensures) (omega arith) in
+    let found-2 : UnitFound c.args.text.now c.in-To.y 32 c.in-To-past_unit.z = unit_found _ _ _ _ (sym c.in-To-past_unit.is ∙ c.past_unit-2.ensures) (omega arith) in
     record { at_in_bounds = found-2.within; last_nonzero = omega arith }
 
 pub returns : goal.returns
 returns c =
     let found : UnitFound c.args.text.now c.args.at 32 c.in-To.y = unit_found _ _ _ _ (sym c.in-To.is ∙ c.past_unit.ensures) (omega arith) in
-    let found-2 : UnitFound (from-y c).args.text.now c.in-To.y 32 c.in-To-past_unit.z = unit_found _ _ _ _ (sym c.in-To-past_unit.is ∙ c.past_unit-2.ensures) (omega arith) in
+    let found-2 : UnitFound c.args.text.now c.in-To.y 32 c.in-To-past_unit.z = unit_found _ _ _ _ (sym c.in-To-past_unit.is ∙ c.past_unit-2.ensures) (omega arith) in
     vertex_third _ _ _ found _ found-2 _ c.past_unit-3.ensures

@@ -31,20 +31,16 @@ returns-then-far-count c =
 
 pub fill_rings-requires : goal.fill_rings-requires
 fill_rings-requires c =
-    let j = c in
-    let p = (from-judged j).requires in
-    let e = j.judge-vertices.ensures in
-    record { face_lines = p.face_lines; tables = tables_same e.1 tables_long; fillable = fillable p e.0 c.if-open-count.left c.if-unfit-count.left }
+    let p = c.requires in
+    record { face_lines = p.face_lines; tables = tables_same c.judge_vertices-faults.ensures.same_room tables_long; fillable = fillable p c.judge_vertices-faults.ensures.judged c.if-open-count.false c.if-unfit-count.false }
 
 pub fill_points-requires : goal.fill_points-requires
 fill_points-requires c =
-    let p = (from-judged (from-closed c.before)).requires in
+    let p = c.requires in
     record { vertex_lines = p.vertex_lines; count_in_bounds = p.points_room }
 
 pub returns : goal.returns
 unfolding after
 returns c =
-    let u = c in
-    let j = from-closed u.before in
     let f = c.fill_rings.ensures in
-    record { value = all_accepted (from-judged j).requires j.judge-vertices.ensures.0 u.before.if1.left u.if2.left c.first_far-far.ensures c.if-far-count.left; valences_after = valences_written _ f; rings_after = rings_written _ f; positions_after = c.fill_points.ensures.is }
+    record { value = all_accepted c.requires c.judge_vertices-faults.ensures.judged c.if-open-count.false c.if-unfit-count.false c.first_far-far.ensures c.if-far-count.false; valences_after = valences_written _ f; rings_after = rings_written _ f; positions_after = c.fill_points.ensures.is }

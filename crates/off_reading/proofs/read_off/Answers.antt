@@ -19,7 +19,7 @@ pub returns-then-is_short : goal.returns-then-is_short
 returns-then-is_short c =
     let t = let whole : let v = c.count-1.given.0 in
     Whole c.args.text.now v.0 v.1.0 v.1.1.0 v.1.1.1.0 = whole_told _ _ _ _ _ (sym c.judge_text.ensures ∙ c.in-Whole.is) in
-    short_refused _ _ _ whole _ c.is_bad_count.ensures c.if-is_bad_count.left _
+    short_refused _ _ _ whole _ c.is_bad_count.ensures c.if-is_bad_count.false _
     c.is_short.ensures c.if-is_short.true in
     record { value = t.0; valences_after = t.1.0; rings_after = t.1.1.0; positions_after = t.1.1.1 }
 
@@ -27,7 +27,7 @@ pub read_lines-requires : goal.read_lines-requires
 read_lines-requires c =
     let whole : let v = c.count-1.given.0 in
     Whole c.args.text.now v.0 v.1.0 v.1.1.0 v.1.1.1.0 = whole_told _ _ _ _ _ (sym c.judge_text.ensures ∙ c.in-Whole.is) in
-    lines_known _ _ _ whole _ c.is_bad_count.ensures c.if-is_bad_count.left _
+    lines_known _ _ _ whole _ c.is_bad_count.ensures c.if-is_bad_count.false _
     c.is_short.ensures c.if-is_short.false
 
 pub returns-in-Refused : goal.returns-in-Refused
@@ -39,9 +39,8 @@ pub returns-in-Refused-read_lines : goal.returns-in-Refused-read_lines
 returns-in-Refused-read_lines c =
     let t = let whole : let v = c.count-1.given.0 in
     Whole c.args.text.now v.0 v.1.0 v.1.1.0 v.1.1.1.0 = whole_told _ _ _ _ _ (sym c.judge_text.ensures ∙ c.in-Whole.is) in
-    let e = c in
-    lines_refused _ _ _ (whole e.before.before.before) _ e.before.is-bad-count.ensures e.if1.left _
-    c.is_short.ensures c.if-is_short.left
+    lines_refused _ _ _ whole _ c.is_bad_count.ensures c.if-is_bad_count.false _
+    c.is_short.ensures c.if-is_short.false
     c.read_lines.ensures.value c.read_lines.ensures.valences_after c.read_lines.ensures.rings_after c.read_lines.ensures.positions_after _ c.in-Refused-read_lines.is in
     record { value = t.0; valences_after = t.1.0; rings_after = t.1.1.0; positions_after = t.1.1.1 }
 
@@ -49,8 +48,7 @@ pub returns-in-Accepted : goal.returns-in-Accepted
 returns-in-Accepted c =
     let t = let whole : let v = c.count-1.given.0 in
     Whole c.args.text.now v.0 v.1.0 v.1.1.0 v.1.1.1.0 = whole_told _ _ _ _ _ (sym c.judge_text.ensures ∙ c.in-Whole.is) in
-    let e = c in
-    lines_accepted _ _ _ (whole e.before.before.before) _ e.before.is-bad-count.ensures e.if1.left _
-    c.is_short.ensures c.if-is_short.left
+    lines_accepted _ _ _ whole _ c.is_bad_count.ensures c.if-is_bad_count.false _
+    c.is_short.ensures c.if-is_short.false
     c.read_lines.ensures.value c.read_lines.ensures.valences_after c.read_lines.ensures.rings_after c.read_lines.ensures.positions_after c.in-Accepted.is in
     record { value = t.0; valences_after = t.1.0; rings_after = t.1.1.0; positions_after = t.1.1.1 }

@@ -58,22 +58,18 @@ put_faces-requires c =
     + length (corner_lines a.count (lent a.valences.now a.rings.now) a.positions.now)))
     ≤ length a.text.now = let a = c.args in
     parts_fit a.count (lent a.valences.now a.rings.now) a.positions.now a.e a.f c.requires.e_value c.requires.f_value c.requires.positions_in_bounds in
-    let o = c in
-    let s = from-word o in
-    let h = fit s in
-    let w = put_length o.put_word.ensures in
+    let h = fit in
+    let w = put_length c.put_word.ensures in
     let k = c.put_counts-vertices.ensures in
     let v = c.put_vertices-corners.ensures in
     let l = written_length k in
     let m = written_length v in
     let e = k.ends in
     let f = v.ends in
-    record { fit = accepted_fit _ _ _ (accepted_all _ _ _ (checked s)); sound = (checked s).sound; rings_in_bounds = omega arith }
+    record { fit = accepted_fit _ _ _ (accepted_all _ _ _ checked); sound = checked.sound; rings_in_bounds = omega arith }
 
 pub returns : goal.returns
 returns c =
-    let o = c in
-    let s = from-word o in
-    let a = s.args in
-    all_written a.count (lent a.valences.now a.rings.now) a.positions.now a.e a.f s.requires.1.0 s.requires.1.1.0
-    o.put_word.ensures c.put_counts-vertices.ensures c.put_vertices-corners.ensures c.put_faces.ensures
+    let a = c.args in
+    all_written a.count (lent a.valences.now a.rings.now) a.positions.now a.e a.f c.requires.e_value c.requires.f_value
+    c.put_word.ensures c.put_counts-vertices.ensures c.put_vertices-corners.ensures c.put_faces.ensures

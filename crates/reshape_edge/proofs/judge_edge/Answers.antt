@@ -24,8 +24,8 @@ returns-in_default c =
     let ends : Ends c.args.count (lent c.args.valences.now c.args.rings.now) c.args.u c.args.v
     c.lesser-p.result c.greater-q.result c.ring_of-ring.result.now = record {
       checked = c.requires;
-      u_lt = c.if-count-u.left;
-      v_lt = c.if-count-v.left;
+      u_lt = c.if-count-u.false;
+      v_lt = c.if-count-v.false;
       p_is = c.lesser-p.ensures;
       q_is = c.greater-q.ensures;
       ring = c.ring_of-ring.ensures.result_value;
@@ -37,8 +37,8 @@ returns-in_default-before_in c =
     let ends : Ends c.args.count (lent c.args.valences.now c.args.rings.now) c.args.u c.args.v
     c.lesser-p.result c.greater-q.result c.ring_of-ring.result.now = record {
       checked = c.requires;
-      u_lt = c.if-count-u.left;
-      v_lt = c.if-count-v.left;
+      u_lt = c.if-count-u.false;
+      v_lt = c.if-count-v.false;
       p_is = c.lesser-p.ensures;
       q_is = c.greater-q.ensures;
       ring = c.ring_of-ring.ensures.result_value;
@@ -50,8 +50,8 @@ is_full-requires c =
     let ends : Ends c.args.count (lent c.args.valences.now c.args.rings.now) c.args.u c.args.v
     c.lesser-p.result c.greater-q.result c.ring_of-ring.result.now = record {
       checked = c.requires;
-      u_lt = c.if-count-u.left;
-      v_lt = c.if-count-v.left;
+      u_lt = c.if-count-u.false;
+      v_lt = c.if-count-v.false;
       p_is = c.lesser-p.ensures;
       q_is = c.greater-q.ensures;
       ring = c.ring_of-ring.ensures.result_value;
@@ -65,16 +65,16 @@ returns-then-is_full c =
     let ends : Ends c.args.count (lent c.args.valences.now c.args.rings.now) c.args.u c.args.v
     c.lesser-p.result c.greater-q.result c.ring_of-ring.result.now = record {
       checked = c.requires;
-      u_lt = c.if-count-u.left;
-      v_lt = c.if-count-v.left;
+      u_lt = c.if-count-u.false;
+      v_lt = c.if-count-v.false;
       p_is = c.lesser-p.ensures;
       q_is = c.greater-q.ensures;
       ring = c.ring_of-ring.ensures.result_value;
     } in
     let after : let f = c.a-1.given.0 in
     At f.0 f.1.0 ≡ after_in c.ring_of-ring.result.now c.greater-q.result = sym c.in-At.is ∙ c.after_in.ensures in
-    let before : let o = from_a c in let f = c.b-1.given.0 in
-    At f.0 f.1.0 ≡ before_in o.ring_of.result.now o.before.greater.result = sym c.in-At-before_in.is ∙ c.before_in.ensures in
+    let before : let f = c.b-1.given.0 in
+    At f.0 f.1.0 ≡ before_in c.ring_of-ring.result.now c.greater-q.result = sym c.in-At-before_in.is ∙ c.before_in.ensures in
     full_after ends after before _ c.is_full.ensures c.if-is_full.true
 
 pub is_full-requires-2 : goal.is_full-requires-2
@@ -82,16 +82,16 @@ is_full-requires-2 c =
     let ends : Ends c.args.count (lent c.args.valences.now c.args.rings.now) c.args.u c.args.v
     c.lesser-p.result c.greater-q.result c.ring_of-ring.result.now = record {
       checked = c.requires;
-      u_lt = c.if-count-u.left;
-      v_lt = c.if-count-v.left;
+      u_lt = c.if-count-u.false;
+      v_lt = c.if-count-v.false;
       p_is = c.lesser-p.ensures;
       q_is = c.greater-q.ensures;
       ring = c.ring_of-ring.ensures.result_value;
     } in
     let after : let f = c.a-1.given.0 in
     At f.0 f.1.0 ≡ after_in c.ring_of-ring.result.now c.greater-q.result = sym c.in-At.is ∙ c.after_in.ensures in
-    let before : let o = from_a c in let f = c.b-1.given.0 in
-    At f.0 f.1.0 ≡ before_in o.ring_of.result.now o.before.greater.result = sym c.in-At-before_in.is ∙ c.before_in.ensures in
+    let before : let f = c.b-1.given.0 in
+    At f.0 f.1.0 ≡ before_in c.ring_of-ring.result.now c.greater-q.result = sym c.in-At-before_in.is ∙ c.before_in.ensures in
     let e = ends in
     in_table e.checked _ (before_lt e after before)
 
@@ -100,16 +100,16 @@ returns-then-is_full-2 c =
     let ends : Ends c.args.count (lent c.args.valences.now c.args.rings.now) c.args.u c.args.v
     c.lesser-p.result c.greater-q.result c.ring_of-ring.result.now = record {
       checked = c.requires;
-      u_lt = c.if-count-u.left;
-      v_lt = c.if-count-v.left;
+      u_lt = c.if-count-u.false;
+      v_lt = c.if-count-v.false;
       p_is = c.lesser-p.ensures;
       q_is = c.greater-q.ensures;
       ring = c.ring_of-ring.ensures.result_value;
     } in
     let after : let f = c.a-1.given.0 in
     At f.0 f.1.0 ≡ after_in c.ring_of-ring.result.now c.greater-q.result = sym c.in-At.is ∙ c.after_in.ensures in
-    let before : let o = from_a c in let f = c.b-1.given.0 in
-    At f.0 f.1.0 ≡ before_in o.ring_of.result.now o.before.greater.result = sym c.in-At-before_in.is ∙ c.before_in.ensures in
+    let before : let f = c.b-1.given.0 in
+    At f.0 f.1.0 ≡ before_in c.ring_of-ring.result.now c.greater-q.result = sym c.in-At-before_in.is ∙ c.before_in.ensures in
     full_before ends after before _ c.is_full.ensures c.if-is_full.false _ c.is_full-2.ensures c.if-is_full-2.true
 
 pub returns : goal.returns
@@ -117,14 +117,14 @@ returns c =
     let ends : Ends c.args.count (lent c.args.valences.now c.args.rings.now) c.args.u c.args.v
     c.lesser-p.result c.greater-q.result c.ring_of-ring.result.now = record {
       checked = c.requires;
-      u_lt = c.if-count-u.left;
-      v_lt = c.if-count-v.left;
+      u_lt = c.if-count-u.false;
+      v_lt = c.if-count-v.false;
       p_is = c.lesser-p.ensures;
       q_is = c.greater-q.ensures;
       ring = c.ring_of-ring.ensures.result_value;
     } in
     let after : let f = c.a-1.given.0 in
     At f.0 f.1.0 ≡ after_in c.ring_of-ring.result.now c.greater-q.result = sym c.in-At.is ∙ c.after_in.ensures in
-    let before : let o = from_a c in let f = c.b-1.given.0 in
-    At f.0 f.1.0 ≡ before_in o.ring_of.result.now o.before.greater.result = sym c.in-At-before_in.is ∙ c.before_in.ensures in
+    let before : let f = c.b-1.given.0 in
+    At f.0 f.1.0 ≡ before_in c.ring_of-ring.result.now c.greater-q.result = sym c.in-At-before_in.is ∙ c.before_in.ensures in
     both_free ends after before _ c.is_full.ensures c.if-is_full.false _ c.is_full-2.ensures c.if-is_full-2.false

@@ -29,9 +29,9 @@ pub returns-in-Refused-judge_new : goal.returns-in-Refused-judge_new
 returns-in-Refused-judge_new c =
     let checked : let s = c.args in
     Accepted ≡ check_verdict s.count (lent s.valences.now s.rings.now) s.positions.now = sym c.in_default.is ∙ c.judge.ensures in
-    let found : let s = (from-check c).args in
+    let found : let s = c.args in
     Accepted ≡ face_verdict s.count (lent s.valences.now s.rings.now) s.u s.v s.w = sym c.in_default-judge_face.is ∙ c.judge_face.ensures in
-    let no_room : let s = (from-check c).args in
+    let no_room : let s = c.args in
     Refused c.in-Refused-judge_new.r ≡ new_verdict s.count (lent s.valences.now s.rings.now) s.positions.now = sym c.in-Refused-judge_new.is ∙ c.judge_new.ensures in
     by_last _ _ _ _ _ _ checked found _ no_room
 
@@ -39,8 +39,8 @@ pub returns : goal.returns
 returns c =
     let checked : let s = c.args in
     Accepted ≡ check_verdict s.count (lent s.valences.now s.rings.now) s.positions.now = sym c.in_default.is ∙ c.judge.ensures in
-    let found : let s = (from-check c).args in
+    let found : let s = c.args in
     Accepted ≡ face_verdict s.count (lent s.valences.now s.rings.now) s.u s.v s.w = sym c.in_default-judge_face.is ∙ c.judge_face.ensures in
-    let room : let s = (from-check c).args in
+    let room : let s = c.args in
     Accepted ≡ new_verdict s.count (lent s.valences.now s.rings.now) s.positions.now = sym c.in_default-judge_new.is ∙ c.judge_new.ensures in
     accepted _ _ _ _ _ _ checked found room _ c.from_smallest.ensures

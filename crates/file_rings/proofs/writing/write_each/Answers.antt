@@ -18,7 +18,7 @@ pub loop-i-preserved : goal.loop-i-preserved
 loop-i-preserved c =
     let p = c.put_two.ensures in
     let r = c.args.ring.now in
-    (search rules, (c.put_two.auto.0 ∙ c.loop-i.invariant.1.0, rows_next (neighbour_bytes r) c.loop-i.i c.loop-i.invariant.1.1 p (omega (arith, length_neighbour_bytes r c.loop-i.i))))
+    (search rules, (c.put_two.auto.file ∙ c.loop-i.invariant.1.0, rows_next (neighbour_bytes r) c.loop-i.i c.loop-i.invariant.1.1 p (omega (arith, length_neighbour_bytes r c.loop-i.i))))
 
 pub returns : goal.returns
 returns c = rows_all (neighbour_bytes c.args.ring.now) c.loop-i.i _ c.loop-i.invariant.1.1 c.loop-i.invariant.0 c.loop-i-test.false

@@ -27,7 +27,7 @@ loop-i-preserved c =
       (
         let z = c.loop-i.invariant.1.0 in omega arith,
         (
-          c.write_four.auto.0 ∙ c.loop-i.invariant.1.1.0,
+          c.write_four.auto.file ∙ c.loop-i.invariant.1.1.0,
           from_next (neighbour_bytes a.ring.now) 4 c.loop-i.i 4 c.loop-i.invariant.1.1.1 w (omega (arith, length_part_bytes a.ring.now 4 c.loop-i.i)),
         ),
       ),

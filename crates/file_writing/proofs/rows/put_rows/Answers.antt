@@ -29,7 +29,7 @@ loop-v-preserved c =
     let t : Lent = lent c.args.valences.now c.args.rings.now in (
       search rules,
       (
-        c.put_row-at.auto.0 ∙ c.loop-v.invariant.1.0,
+        c.put_row-at.auto.file ∙ c.loop-v.invariant.1.0,
         (
           omega (arith, c.put_row-at.ensures.value, length_more t.valences c.loop-v.v),
           rows_next (row_bytes (ring_of t) (coordinate_at c.args.positions.now)) c.loop-v.v c.loop-v.invariant.1.1.1 c.put_row-at.ensures.put (omega (arith, rows_long c.requires.stored c.loop-v.v c.loop-v.invariant.0)),

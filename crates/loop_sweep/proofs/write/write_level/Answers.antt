@@ -13,7 +13,7 @@ write_new-requires c =
     let n = c.args.count in
     let t : Lent = lent c.args.valences.now c.args.rings.now in
     let ps = c.args.positions.now in
-    let d : Done n n t ps (lent c.write_old-edges.new.0 c.write_old-edges.new.1.0) c.write_old-edges.new.1.1.0 = record { valences = c.write_old-edges.ensures.valences_after; rings = c.write_old-edges.ensures.rings_after; positions = c.write_old-edges.ensures.positions_after } in
+    let d : Done n n t ps (lent c.write_old-edges.new.valences c.write_old-edges.new.rings) c.write_old-edges.new.positions = record { valences = c.write_old-edges.ensures.valences_after; rings = c.write_old-edges.ensures.rings_after; positions = c.write_old-edges.ensures.positions_after } in
     record { levels = done_levels c.requires d (omega arith); up_to = done_up_to c.requires d (omega arith) }
 
 pub overflow_add-count-3 : goal.overflow_add-count-3
@@ -21,7 +21,7 @@ overflow_add-count-3 c =
     let n = c.args.count in
     let t : Lent = lent c.args.valences.now c.args.rings.now in
     let ps = c.args.positions.now in
-    let d : Done n n t ps (lent c.write_old-edges.new.0 c.write_old-edges.new.1.0) c.write_old-edges.new.1.1.0 = record { valences = c.write_old-edges.ensures.valences_after; rings = c.write_old-edges.ensures.rings_after; positions = c.write_old-edges.ensures.positions_after } in
+    let d : Done n n t ps (lent c.write_old-edges.new.valences c.write_old-edges.new.rings) c.write_old-edges.new.positions = record { valences = c.write_old-edges.ensures.valences_after; rings = c.write_old-edges.ensures.rings_after; positions = c.write_old-edges.ensures.positions_after } in
     let f = c.requires.ready.fits in
     omega arith
 
@@ -30,7 +30,7 @@ write_sixes-requires c =
     let n = c.args.count in
     let t : Lent = lent c.args.valences.now c.args.rings.now in
     let ps = c.args.positions.now in
-    let d : Done n n t ps (lent c.write_old-edges.new.0 c.write_old-edges.new.1.0) c.write_old-edges.new.1.1.0 = record { valences = c.write_old-edges.ensures.valences_after; rings = c.write_old-edges.ensures.rings_after; positions = c.write_old-edges.ensures.positions_after } in
+    let d : Done n n t ps (lent c.write_old-edges.new.valences c.write_old-edges.new.rings) c.write_old-edges.new.positions = record { valences = c.write_old-edges.ensures.valences_after; rings = c.write_old-edges.ensures.rings_after; positions = c.write_old-edges.ensures.positions_after } in
     let f = c.requires.ready.room.valences in
     let e = done_valence_count c.requires d (omega arith) in
     record { first_le_end = omega arith; end_in_bounds = omega arith }
@@ -40,5 +40,5 @@ returns c =
     let n = c.args.count in
     let t : Lent = lent c.args.valences.now c.args.rings.now in
     let ps = c.args.positions.now in
-    let d : Done n n t ps (lent c.write_old-edges.new.0 c.write_old-edges.new.1.0) c.write_old-edges.new.1.1.0 = record { valences = c.write_old-edges.ensures.valences_after; rings = c.write_old-edges.ensures.rings_after; positions = c.write_old-edges.ensures.positions_after } in
+    let d : Done n n t ps (lent c.write_old-edges.new.valences c.write_old-edges.new.rings) c.write_old-edges.new.positions = record { valences = c.write_old-edges.ensures.valences_after; rings = c.write_old-edges.ensures.rings_after; positions = c.write_old-edges.ensures.positions_after } in
     record { valences_after = valences_whole c.requires d.valences c.write_old-edges.result c.write_old-edges.ensures.value c.write_sixes.ensures; rings_after = rings_again c.requires d c.write_new.ensures.rings_after; positions_after = positions_again c.requires d c.write_new.ensures.positions_after }

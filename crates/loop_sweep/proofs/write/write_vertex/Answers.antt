@@ -79,7 +79,7 @@ overflow_sub-result c =
     let start : ℕ = c.args.start in
     let t : Lent = lent c.args.valences.now c.args.rings.now in
     let six : 6 ≡ valence_at t p = sym c.if-n-eq6.true in
-    let next-six : (c.count_below-low.result ≤ start + 6) × (start + 6 - c.count_below-low.result ≡ start_of count t (p + 1)) = next (from-six c.before.before.before) six c.row_of.ensures.result_value c.count_below-low.ensures.value in
+    let next-six : (c.count_below-low.result ≤ start + 6) × (start + 6 - c.count_below-low.result ≡ start_of count t (p + 1)) = next c six c.row_of.ensures.result_value c.count_below-low.ensures.value in
     next-six.0
 
 pub returns-then-n-eq6 : goal.returns-then-n-eq6
@@ -89,7 +89,7 @@ returns-then-n-eq6 c =
     let start : ℕ = c.args.start in
     let t : Lent = lent c.args.valences.now c.args.rings.now in
     let six : 6 ≡ valence_at t p = sym c.if-n-eq6.true in
-    let next-six : (c.count_below-low.result ≤ start + 6) × (start + 6 - c.count_below-low.result ≡ start_of count t (p + 1)) = next (from-six c.before.before.before) six c.row_of.ensures.result_value c.count_below-low.ensures.value in
+    let next-six : (c.count_below-low.result ≤ start + 6) × (start + 6 - c.count_below-low.result ≡ start_of count t (p + 1)) = next c six c.row_of.ensures.result_value c.count_below-low.ensures.value in
     record { value = next-six.1; rings_after = c.write_old_ring.ensures; positions_after = point_done c six c.row_of-then-n-eq6.ensures.result_value c.ring_point-point.ensures.value c.set_point.ensures }
 
 pub row_of-requires-2 : goal.row_of-requires-2

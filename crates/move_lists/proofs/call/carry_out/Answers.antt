@@ -38,7 +38,7 @@ write_control-requires c =
     let near = fair_near c.args.plan c.requires.fair in
     let n = control_in_map j (planned c.args.plan) low near in
     let r = j.room in
-    record { fair = c.requires.fair; count_in_bounds = j.stack.control.points; count_in_bounds_2 = omega (arith, c.clear.auto.0); count_le_stack_bound = omega (arith, (edges_asked j.stack).1) }
+    record { fair = c.requires.fair; count_in_bounds = j.stack.control.points; count_in_bounds_2 = omega (arith, c.clear.auto.map); count_le_stack_bound = omega (arith, (edges_asked j.stack).1) }
 
 pub refresh_levels-requires : goal.refresh_levels-requires
 refresh_levels-requires c =
@@ -56,7 +56,7 @@ refresh_levels-requires c =
       stack_ready = rw c.write_control.ensures.positions_after
           (stack_ready j (planned c.args.plan) low near _ (edges_are j.stack _ c.edge_count-edges.ensures.value));
       map_ready = map_ready j (planned c.args.plan) low near _ _ _ cleared c.write_control.ensures.map_after
-          (omega (arith, c.clear.auto.0, c.write_control.auto.1));
+          (omega (arith, c.clear.auto.map, c.write_control.auto.1));
     }
 
 pub count-requires : goal.count-requires
@@ -75,7 +75,7 @@ count-requires c =
     record {
       total_le_stack_bound = omega arith;
       total_in_bounds = omega
-          (arith, c.clear.auto.0, c.write_control.auto.1, c.refresh_levels.auto.0);
+          (arith, c.clear.auto.map, c.write_control.auto.1, c.refresh_levels.auto.map);
     }
 
 pub returns : goal.returns
@@ -105,5 +105,5 @@ returns c =
       map_after = map_marked j (planned s.args.plan) low near _ _ _ cleared named _ t r
           (record { small = λ w. (c.slice_known-1.given w).fits })
           (record { small = λ w. (c.slice_known-4-1.given w).fits })
-          (omega (arith, c.clear.auto.0, c.write_control.auto.1, c.refresh_levels.auto.0));
+          (omega (arith, c.clear.auto.map, c.write_control.auto.1, c.refresh_levels.auto.map));
     }

@@ -36,9 +36,9 @@ loop-k-preserved c =
     let h : c.loop-k.k < length c.args.plan.entries = omega (arith, c.requires.fair.size, c.requires.fair.few, c.loop-k-test.true) in (
       omega (arith, c.loop-k-test.true),
       (
-        omega (arith, c.set_point.auto.0, c.loop-k.invariant.1.0),
+        omega (arith, c.set_point.auto.positions, c.loop-k.invariant.1.0),
         (
-          omega (arith, c.mark.auto.0, c.loop-k.invariant.1.1.0),
+          omega (arith, c.mark.auto.map, c.loop-k.invariant.1.1.0),
           (
             c.set_point.ensures ∙ ap (λ (t : List ℤ). placed t entry.vertex entry.point) c.loop-k.invariant.1.1.1.0 ∙ laid_more c.args.plan.entries c.loop-k.k blank h _,
             c.mark.ensures ∙ ap (λ (t : ℕ → Bool). including t entry.vertex) c.loop-k.invariant.1.1.1.1 ∙ named_more c.args.plan.entries c.loop-k.k blank h _,

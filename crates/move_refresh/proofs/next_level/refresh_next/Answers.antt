@@ -25,24 +25,22 @@ overflow_add-base-in-loop-x c = let m = c.requires.in_map.small in let e = c.req
 
 pub clear_ahead-skip-requires : goal.clear_ahead-skip-requires
 clear_ahead-skip-requires c =
-    let h = c.requires in
-    let m = h.1.0.room in
-    let e = h.0 in
+    let m = c.requires.in_map.room in
+    let e = c.requires.above_value in
     let k = c.mark_next.kept.0 in
     omega arith
 
 pub refresh_vertex-requires : goal.refresh_vertex-requires
 refresh_vertex-requires c =
     let both : BothLevels c.args.base c.args.count (lent c.args.valences.now c.args.rings.now) c.args.map.now = record { numbers = c.requires.in_map; ready = c.requires.levels.ready; rings = c.requires.next_rings } in
-    let s = c in
-    let e = s.requires.0 in
+    let e = c.requires.above_value in
     let l = c.loop-x-test.true in
-    record { both_levels = both_long (both s) c.mark_next.kept.0; levels = levels_kept s.requires.1.1.0 c.loop-x.invariant.1 (omega arith); x_bound = omega arith }
+    record { both_levels = both_long both c.mark_next.kept.0; levels = levels_kept c.requires.levels c.loop-x.invariant.1 (omega arith); x_bound = omega arith }
 
 pub loop-x-preserved-then-skip-eq0 : goal.loop-x-preserved-then-skip-eq0
 unfolding rows
 loop-x-preserved-then-skip-eq0 c =
-    let settled : let a = c.args in Settled (rows a.count (lent a.valences.now a.rings.now)) a.base (marked c.mark_next.new.0) = marked_settled _ c.requires.levels.ready.sound c.args.base _ c.mark_next.ensures in
+    let settled : let a = c.args in Settled (rows a.count (lent a.valences.now a.rings.now)) a.base (marked c.mark_next.new.map) = marked_settled _ c.requires.levels.ready.sound c.args.base _ c.mark_next.ensures in
     let e = c.requires.above_value in
     let l = c.loop-x-test.true in
     (omega arith, refreshed_more c.requires.levels c.loop-x.invariant.1 (omega arith) settled (omega arith) c.refresh_vertex.ensures)
@@ -56,7 +54,7 @@ loop-x-smaller c = let k = c.clear_ahead-skip.ensures.upper_bound in let n = c.i
 pub loop-x-preserved : goal.loop-x-preserved
 unfolding rows
 loop-x-preserved c =
-    let settled : let a = c.args in Settled (rows a.count (lent a.valences.now a.rings.now)) a.base (marked c.mark_next.new.0) = marked_settled _ c.requires.levels.ready.sound c.args.base _ c.mark_next.ensures in
+    let settled : let a = c.args in Settled (rows a.count (lent a.valences.now a.rings.now)) a.base (marked c.mark_next.new.map) = marked_settled _ c.requires.levels.ready.sound c.args.base _ c.mark_next.ensures in
     let e = c.requires.above_value in
     let l = c.loop-x-test.true in
     let k = c.clear_ahead-skip.ensures.upper_bound in
@@ -65,8 +63,7 @@ loop-x-preserved c =
 pub returns : goal.returns
 unfolding rows
 returns c =
-    let s = c in
-    let e = s.requires.0 in
-    let k : c.loop-x.x ≡ s.args.above = omega arith in
+    let e = c.requires.above_value in
+    let k : c.loop-x.x ≡ c.args.above = omega arith in
     let d = rw (k ∙ e) at c.loop-x.invariant.1 in
-    record { map_after = c.mark_next.ensures; positions_after = d.points ∙ marked_points _ s.requires.1.1.0.ready.sound s.args.base _ c.mark_next.ensures _ }
+    record { map_after = c.mark_next.ensures; positions_after = d.points ∙ marked_points _ c.requires.levels.ready.sound c.args.base _ c.mark_next.ensures _ }

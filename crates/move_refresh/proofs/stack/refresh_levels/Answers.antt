@@ -19,56 +19,56 @@ pub overflow_mul-base : goal.overflow_mul-base
 overflow_mul-base c =
     let fits : let b = c.loop-k.below in
     (b.start + (b.vertices + (b.vertices + b.edges)) ≤ 327675)
-    × ((b.start ≤ length c.args.valences.now) × ((b.start * 32 ≤ length c.args.rings.now) × (b.start * 3 ≤ length c.loop-k.positions))) = raised_fits (start c.before).requires.0 _ c.loop-k.invariant.1 c.loop-k-test.true in
+    × ((b.start ≤ length c.args.valences.now) × ((b.start * 32 ≤ length c.args.rings.now) × (b.start * 3 ≤ length c.loop-k.positions))) = raised_fits c.requires.stack_ready _ c.loop-k.invariant.1 c.loop-k-test.true in
     let f = fits in omega arith
 
 pub offset_bounds-positions-base : goal.offset_bounds-positions-base
 offset_bounds-positions-base c =
     let fits : let b = c.loop-k.below in
     (b.start + (b.vertices + (b.vertices + b.edges)) ≤ 327675)
-    × ((b.start ≤ length c.args.valences.now) × ((b.start * 32 ≤ length c.args.rings.now) × (b.start * 3 ≤ length c.loop-k.positions))) = raised_fits (start c.before).requires.0 _ c.loop-k.invariant.1 c.loop-k-test.true in
+    × ((b.start ≤ length c.args.valences.now) × ((b.start * 32 ≤ length c.args.rings.now) × (b.start * 3 ≤ length c.loop-k.positions))) = raised_fits c.requires.stack_ready _ c.loop-k.invariant.1 c.loop-k-test.true in
     let f = fits in omega arith
 
 pub slice_bounds-refresh_next-count : goal.slice_bounds-refresh_next-count
 slice_bounds-refresh_next-count c =
     let fits : let b = c.loop-k.below in
     (b.start + (b.vertices + (b.vertices + b.edges)) ≤ 327675)
-    × ((b.start ≤ length c.args.valences.now) × ((b.start * 32 ≤ length c.args.rings.now) × (b.start * 3 ≤ length c.loop-k.positions))) = raised_fits (start c.before).requires.0 _ c.loop-k.invariant.1 c.loop-k-test.true in
+    × ((b.start ≤ length c.args.valences.now) × ((b.start * 32 ≤ length c.args.rings.now) × (b.start * 3 ≤ length c.loop-k.positions))) = raised_fits c.requires.stack_ready _ c.loop-k.invariant.1 c.loop-k-test.true in
     let f = fits in omega arith
 
 pub offset_bounds-valences-base : goal.offset_bounds-valences-base
 offset_bounds-valences-base c =
     let fits : let b = c.loop-k.below in
     (b.start + (b.vertices + (b.vertices + b.edges)) ≤ 327675)
-    × ((b.start ≤ length c.args.valences.now) × ((b.start * 32 ≤ length c.args.rings.now) × (b.start * 3 ≤ length c.loop-k.positions))) = raised_fits (start c.before).requires.0 _ c.loop-k.invariant.1 c.loop-k-test.true in
+    × ((b.start ≤ length c.args.valences.now) × ((b.start * 32 ≤ length c.args.rings.now) × (b.start * 3 ≤ length c.loop-k.positions))) = raised_fits c.requires.stack_ready _ c.loop-k.invariant.1 c.loop-k-test.true in
     let f = fits in omega arith
 
 pub slice_bounds-refresh_next-count-in-loop-k : goal.slice_bounds-refresh_next-count-in-loop-k
 slice_bounds-refresh_next-count-in-loop-k c =
     let fits : let b = c.loop-k.below in
     (b.start + (b.vertices + (b.vertices + b.edges)) ≤ 327675)
-    × ((b.start ≤ length c.args.valences.now) × ((b.start * 32 ≤ length c.args.rings.now) × (b.start * 3 ≤ length c.loop-k.positions))) = raised_fits (start c.before).requires.0 _ c.loop-k.invariant.1 c.loop-k-test.true in
+    × ((b.start ≤ length c.args.valences.now) × ((b.start * 32 ≤ length c.args.rings.now) × (b.start * 3 ≤ length c.loop-k.positions))) = raised_fits c.requires.stack_ready _ c.loop-k.invariant.1 c.loop-k-test.true in
     let f = fits in omega arith
 
 pub overflow_mul-base-in-loop-k : goal.overflow_mul-base-in-loop-k
 overflow_mul-base-in-loop-k c =
     let fits : let b = c.loop-k.below in
     (b.start + (b.vertices + (b.vertices + b.edges)) ≤ 327675)
-    × ((b.start ≤ length c.args.valences.now) × ((b.start * 32 ≤ length c.args.rings.now) × (b.start * 3 ≤ length c.loop-k.positions))) = raised_fits (start c.before).requires.0 _ c.loop-k.invariant.1 c.loop-k-test.true in
+    × ((b.start ≤ length c.args.valences.now) × ((b.start * 32 ≤ length c.args.rings.now) × (b.start * 3 ≤ length c.loop-k.positions))) = raised_fits c.requires.stack_ready _ c.loop-k.invariant.1 c.loop-k-test.true in
     let f = fits in omega arith
 
 pub offset_bounds-rings-base : goal.offset_bounds-rings-base
 offset_bounds-rings-base c =
     let fits : let b = c.loop-k.below in
     (b.start + (b.vertices + (b.vertices + b.edges)) ≤ 327675)
-    × ((b.start ≤ length c.args.valences.now) × ((b.start * 32 ≤ length c.args.rings.now) × (b.start * 3 ≤ length c.loop-k.positions))) = raised_fits (start c.before).requires.0 _ c.loop-k.invariant.1 c.loop-k-test.true in
+    × ((b.start ≤ length c.args.valences.now) × ((b.start * 32 ≤ length c.args.rings.now) × (b.start * 3 ≤ length c.loop-k.positions))) = raised_fits c.requires.stack_ready _ c.loop-k.invariant.1 c.loop-k-test.true in
     let f = fits in omega arith
 
 pub slice_bounds-refresh_next-count-in-loop-k-2 : goal.slice_bounds-refresh_next-count-in-loop-k-2
 slice_bounds-refresh_next-count-in-loop-k-2 c =
     let fits : let b = c.loop-k.below in
     (b.start + (b.vertices + (b.vertices + b.edges)) ≤ 327675)
-    × ((b.start ≤ length c.args.valences.now) × ((b.start * 32 ≤ length c.args.rings.now) × (b.start * 3 ≤ length c.loop-k.positions))) = raised_fits (start c.before).requires.0 _ c.loop-k.invariant.1 c.loop-k-test.true in
+    × ((b.start ≤ length c.args.valences.now) × ((b.start * 32 ≤ length c.args.rings.now) × (b.start * 3 ≤ length c.loop-k.positions))) = raised_fits c.requires.stack_ready _ c.loop-k.invariant.1 c.loop-k-test.true in
     let f = fits in omega arith
 
 pub refresh_next-requires : goal.refresh_next-requires
@@ -79,7 +79,7 @@ refresh_next-requires c =
 pub loop-k-preserved : goal.loop-k-preserved
 loop-k-preserved c = (
   omega arith,
-  raised_more c.requires.stack_ready _ c.loop-k.invariant.1 c.loop-k-test.true _ c.refresh_next.ensures.map_after _ c.refresh_next.ensures.positions_after c.refresh_next.auto.0 _ refl _
+  raised_more c.requires.stack_ready _ c.loop-k.invariant.1 c.loop-k-test.true _ c.refresh_next.ensures.map_after _ c.refresh_next.ensures.positions_after c.refresh_next.auto.map _ refl _
       c.above-next.ensures,
 )
 

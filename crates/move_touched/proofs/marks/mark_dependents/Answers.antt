@@ -38,8 +38,7 @@ overflow_cast-ring c = omega (arith, c.type_inv.ring c.loop-i.i)
 
 pub bounds-next-i : goal.bounds-next-i
 bounds-next-i c =
-    let next-there : length c.ring_of-next.result.now ≡ length c.ring_of-ring.result.now = let s = entry c in
-    ap length c.ring_of-next.ensures.result_value ∙ next_long s.requires.0.ready s.requires.0.rings s.args.t s.requires.1
+    let next-there : length c.ring_of-next.result.now ≡ length c.ring_of-ring.result.now = ap length c.ring_of-next.ensures.result_value ∙ next_long c.requires.both_levels.ready c.requires.both_levels.rings c.args.t c.requires.t_lt_count
     ∙ sym (ap length c.ring_of-ring.ensures.result_value) in
     let e = next-there in omega arith
 
@@ -48,23 +47,20 @@ overflow_cast-next c = omega (arith, c.type_inv.next c.loop-i.i)
 
 pub mark_place-requires : goal.mark_place-requires
 mark_place-requires c =
-    let h = c.requires in
-    place_ready h.0 h.1 c.ring_of-ring.ensures.result_value c.ring_of-next.ensures.result_value c.loop-i.i c.loop-i-test.true
-    (c.loop-i.invariant.1.0 ∙ c.mark.auto.0)
+    place_ready c.requires.both_levels c.requires.t_lt_count c.ring_of-ring.ensures.result_value c.ring_of-next.ensures.result_value c.loop-i.i c.loop-i-test.true
+    (c.loop-i.invariant.1.0 ∙ c.mark.auto.map)
 
 pub loop-i-preserved : goal.loop-i-preserved
-loop-i-preserved c =
-    let h = c.requires in (
-      omega arith,
-      (
-        c.mark_place.auto.0 ∙ c.loop-i.invariant.1.0,
-        place_more h.0 h.1 c.ring_of-ring.ensures.result_value c.ring_of-next.ensures.result_value c.loop-i.i c.loop-i-test.true _
-            c.loop-i.invariant.1.1 c.mark_place.ensures,
-      ),
-    )
+loop-i-preserved c = (
+  omega arith,
+  (
+    c.mark_place.auto.map ∙ c.loop-i.invariant.1.0,
+    place_more c.requires.both_levels c.requires.t_lt_count c.ring_of-ring.ensures.result_value c.ring_of-next.ensures.result_value c.loop-i.i c.loop-i-test.true _
+        c.loop-i.invariant.1.1 c.mark_place.ensures,
+  ),
+)
 
 pub returns : goal.returns
 returns c =
-    let h = c.requires in
-    dependents_marked h.0 h.1 c.ring_of-ring.ensures.result_value c.ring_of-next.ensures.result_value _ c.mark.ensures c.loop-i.i c.loop-i-test.false
+    dependents_marked c.requires.both_levels c.requires.t_lt_count c.ring_of-ring.ensures.result_value c.ring_of-next.ensures.result_value _ c.mark.ensures c.loop-i.i c.loop-i-test.false
     c.loop-i.invariant.1.1

@@ -24,7 +24,7 @@ mark_by-requires c =
 
 pub loop-t-preserved-then-skip-eq0 : goal.loop-t-preserved-then-skip-eq0
 loop-t-preserved-then-skip-eq0 c =
-    (omega arith, (c.mark_by.auto.0 ∙ c.loop-t.invariant.1.0, judging_more c.requires.both_levels.ready c.loop-t.invariant.1.1 c.loop-t-test.true c.mark_by.ensures))
+    (omega arith, (c.mark_by.auto.map ∙ c.loop-t.invariant.1.0, judging_more c.requires.both_levels.ready c.loop-t.invariant.1.1 c.loop-t-test.true c.mark_by.ensures))
 
 pub overflow_add-t-else-skip-eq0 : goal.overflow_add-t-else-skip-eq0
 overflow_add-t-else-skip-eq0 c = let k = c.clear_ahead-skip.ensures.upper_bound in omega arith

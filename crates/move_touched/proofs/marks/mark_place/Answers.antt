@@ -15,7 +15,7 @@ overflow_add-start-2 c = let m = c.requires.edge.small in omega arith
 pub mark-requires-2 : goal.mark-requires-2
 mark-requires-2 c =
     let m = c.requires.edge.room in
-    let k = c.mark.auto.0 in
+    let k = c.mark.auto.map in
     omega arith
 
 pub opposite-requires : goal.opposite-requires
@@ -31,8 +31,8 @@ pub mark-requires-3 : goal.mark-requires-3
 mark-requires-3 c =
     let m = c.requires.far.room in
     let o = c.opposite.ensures in
-    let k = c.mark-2.auto.0 in
-    let j = c.mark.auto.0 in
+    let k = c.mark-2.auto.map in
+    let j = c.mark.auto.map in
     omega arith
 
 pub returns : goal.returns
