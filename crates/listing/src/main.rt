@@ -1,13 +1,31 @@
 // The listing program: reads a mesh file from standard input, and prints its level 1 or why it is refused.
 #![tactic(auto)]
 
-use libc::{STDIN_FILENO, STDOUT_FILENO};
-use mesh::limits::{LISTING_BYTES, LISTING_TEXT};
+ghost use Rattle.std.specs.Prelude.{◌≤◌, length, IfOk};
 
-fn main() {
+use mesh::limits::{LISTING_BYTES, LISTING_TEXT};
+use std::io;
+use std::io::{Read, Stdin};
+
+// Reads until `input` is full or standard input ends, and answers how many bytes there are.
+fn read_full(stdin: &mut Stdin, input: &mut [u8]) -> io::Result<usize>
+    ensures { IfOk result (λ size. size ≤ length input.new) }
+{
+    let mut size = 0;
+    while size < input.len() {
+        let more = stdin.read(&mut input[size..])?;
+        if more == 0 {
+            break;
+        }
+        size += more;
+    }
+    Ok(size)
+}
+
+fn main(rt: HostRuntime) -> io::Result<()> {
     let mut input = [0u8; LISTING_BYTES + 1];
-    let size = io::read_full(STDIN_FILENO, &mut input);
+    let size = read_full(&mut rt.stdin(), &mut input)?;
     let mut text = [0u8; LISTING_TEXT];
     let length = listing_text::listing(&input[..size], &mut text);
-    io::write_all(STDOUT_FILENO, &text[..length]);
+    rt.write_all(&text[..length])
 }
