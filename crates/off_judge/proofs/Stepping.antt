@@ -118,7 +118,7 @@ module _ {s : List ℕ} {faces from at width known rows j count fault : ℕ} {co
   stepped_open : j < rows → open_at s (at + j) ≡ true → Stepped s at width (at + j) width fault true
   stepped_open l o = record {
     sofar = now_known k.wide;
-    open_at_lem = λ t. (omega (arith, b.within), o);
+    opens_at = λ t. (omega (arith, b.within), o);
     nearer = λ t. absurd (true_not_false refl t);
   }
 
@@ -127,7 +127,7 @@ module _ {s : List ℕ} {faces from at width known rows j count fault : ℕ} {co
   unfolding ahead
   stepped_past l wide = record {
     sofar = now_known wide;
-    open_at_lem = λ t. absurd (true_not_false t refl);
+    opens_at = λ t. absurd (true_not_false t refl);
     nearer = λ t. omega (arith, b.some (omega arith), b.within, wide.low);
   }
 
@@ -136,7 +136,7 @@ module _ {s : List ℕ} {faces from at width known rows j count fault : ℕ} {co
   unfolding ahead
   stepped_wider l wide more = record {
     sofar = now_known wide;
-    open_at_lem = λ t. absurd (true_not_false t refl);
+    opens_at = λ t. absurd (true_not_false t refl);
     nearer = λ t. omega (arith, b.within, wide.high);
   }
 

@@ -43,7 +43,7 @@ module _ (s : List ℕ) where
   -- a block was judged: there is less ahead, or the vertex that comes next does not close
   pub record Stepped (at width at' width' fault' : ℕ) (opens : Bool) : Type 0 where
     pub sofar : Sofar at' width' fault'
-    pub open_at_lem : opens ≡ true → (at' < text_count s) × (open_at at' ≡ true)
+    pub opens_at : opens ≡ true → (at' < text_count s) × (open_at at' ≡ true)
     pub nearer : opens ≡ false → ahead (text_count s) at' width' < ahead (text_count s) at width
 
   -- the first vertex that does not close, or V; and where all do, the first that is unfit, or V

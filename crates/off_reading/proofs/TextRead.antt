@@ -74,8 +74,8 @@ module _ {s : List ℕ} {count faces points corners : ℕ} (T : Whole s count fa
       let r = long_tables count t ps long in
       record {
         count_is = T.count_is;
-        vertex_lines_lem = record { begins = T.points_is; good = λ v h. not-false _ (g.1.0.below v (omega (arith, T.count_is))) };
-        face_lines_lem = record {
+        vertex_lines = record { begins = T.points_is; good = λ v h. not-false _ (g.1.0.below v (omega (arith, T.count_is))) };
+        face_lines = record {
           all = T.faces_is;
           begins = T.corners_is;
           number = omega (arith, few_faces s T.accepted, T.faces_is);

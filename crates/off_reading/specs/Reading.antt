@@ -11,7 +11,7 @@ use Rattle.off_points.specs.Points.{VertexLines}
 -- the lines of a text are as they should be, and the tables have rows for its vertices
 pub record Lines (s : List ℕ) (count faces points corners : ℕ) (t : Lent) (ps : List ℤ) : Type 0 where
   pub count_is : count ≡ text_count s
-  pub vertex_lines_lem : VertexLines s count points
-  pub face_lines_lem : FaceLines s faces corners
+  pub vertex_lines : VertexLines s count points
+  pub face_lines : FaceLines s faces corners
   pub room : Room count t
   pub points_room : count * 3 ≤ length ps

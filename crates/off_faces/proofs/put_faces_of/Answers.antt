@@ -7,6 +7,7 @@ use native.Mathlib.Omega.{arith}
 use lib.ListN.{get_or}
 use Rattle.off_faces.proofs.FacesWritten.{faced_none, faced_left, faced_end, faced_fits, faced_same, faced_more, faced_skip}
 use Rattle.off_faces.proofs.put_faces_of.Goals as goal
+use Rattle.off_faces.proofs.put_faces_of.Goals.{then-a-c, else-a-c}
 
 pub loop-k-init : goal.loop-k-init
 loop-k-init c = (search rules, faced_none _ _ (let h = c.requires.count_in_bounds in omega arith))
@@ -31,10 +32,10 @@ loop-k-preserved c =
     let s = c.requires.ascending in
     let e = ap (λ j. get_or c.args.ring.now j 0) c.place_before.ensures.value in (
       omega arith,
-      ⊎_elim
-          (λ d. faced_same d.5 d.6 (faced_more w s _ c.place_over-i.ensures.upper_bound c.place_over-i.ensures.last_bound c.place_over-i.ensures.ring_value _ e d.0.taken d.2.ensures))
-          (λ d. faced_same d.1 d.2 (faced_skip w s _ c.place_over-i.ensures.upper_bound c.place_over-i.ensures.last_bound c.place_over-i.ensures.ring_value _ e d.0.left))
-          c.if-a-c.branch,
+      elim c.if-a-c.branch [
+        then-a-c d ↦ faced_same d.text-is d.end-is (faced_more w s _ c.place_over-i.ensures.upper_bound c.place_over-i.ensures.last_bound c.place_over-i.ensures.ring_value _ e d.if-a-c.true d.put_face-end.ensures)
+      | else-a-c d ↦ faced_same d.text-is d.end-is (faced_skip w s _ c.place_over-i.ensures.upper_bound c.place_over-i.ensures.last_bound c.place_over-i.ensures.ring_value _ e d.if-a-c.false)
+      ],
     )
 
 pub returns : goal.returns

@@ -14,7 +14,7 @@ judge_block-step-requires c =
 
 pub returns-then-step : goal.returns-then-step
 returns-then-step c =
-    let o = c.judge_block-step.ensures.stepped.open_at c.if-step.true in
+    let o = c.judge_block-step.ensures.stepped.opens_at c.if-step.true in
     record { judged = judged_open c.judge_block-step.ensures.stepped.sofar o.0 o.1; same_room = same_more c.loop-at.invariant.1.1 c.judge_block-step.ensures.same_room }
 
 pub loop-at-smaller : goal.loop-at-smaller

@@ -7,8 +7,7 @@ use Rattle.off_reading.proofs.read_off.Goals as goal
 
 pub returns-then-is_bad_count : goal.returns-then-is_bad_count
 returns-then-is_bad_count c =
-    let t = let whole : let v = c.count-1.given.0 in
-    Whole c.args.text.now v.0 v.1.0 v.1.1.0 v.1.1.1.0 = whole_told _ _ _ _ _ (sym c.judge_text.ensures ∙ c.in-Whole.is) in
+    let t = let whole : Whole c.args.text.now c.in-Whole.count c.in-Whole.faces c.in-Whole.points c.in-Whole.corners = whole_told _ _ _ _ _ (sym c.judge_text.ensures ∙ c.in-Whole.is) in
     count_refused _ _ _ whole _ c.is_bad_count.ensures c.if-is_bad_count.true in
     record { value = t.0; valences_after = t.1.0; rings_after = t.1.1.0; positions_after = t.1.1.1 }
 
@@ -17,16 +16,14 @@ is_short-requires c = told_most _ _ c.is_bad_count.ensures c.if-is_bad_count.fal
 
 pub returns-then-is_short : goal.returns-then-is_short
 returns-then-is_short c =
-    let t = let whole : let v = c.count-1.given.0 in
-    Whole c.args.text.now v.0 v.1.0 v.1.1.0 v.1.1.1.0 = whole_told _ _ _ _ _ (sym c.judge_text.ensures ∙ c.in-Whole.is) in
+    let t = let whole : Whole c.args.text.now c.in-Whole.count c.in-Whole.faces c.in-Whole.points c.in-Whole.corners = whole_told _ _ _ _ _ (sym c.judge_text.ensures ∙ c.in-Whole.is) in
     short_refused _ _ _ whole _ c.is_bad_count.ensures c.if-is_bad_count.false _
     c.is_short.ensures c.if-is_short.true in
     record { value = t.0; valences_after = t.1.0; rings_after = t.1.1.0; positions_after = t.1.1.1 }
 
 pub read_lines-requires : goal.read_lines-requires
 read_lines-requires c =
-    let whole : let v = c.count-1.given.0 in
-    Whole c.args.text.now v.0 v.1.0 v.1.1.0 v.1.1.1.0 = whole_told _ _ _ _ _ (sym c.judge_text.ensures ∙ c.in-Whole.is) in
+    let whole : Whole c.args.text.now c.in-Whole.count c.in-Whole.faces c.in-Whole.points c.in-Whole.corners = whole_told _ _ _ _ _ (sym c.judge_text.ensures ∙ c.in-Whole.is) in
     lines_known _ _ _ whole _ c.is_bad_count.ensures c.if-is_bad_count.false _
     c.is_short.ensures c.if-is_short.false
 
@@ -37,8 +34,7 @@ returns-in-Refused c =
 
 pub returns-in-Refused-read_lines : goal.returns-in-Refused-read_lines
 returns-in-Refused-read_lines c =
-    let t = let whole : let v = c.count-1.given.0 in
-    Whole c.args.text.now v.0 v.1.0 v.1.1.0 v.1.1.1.0 = whole_told _ _ _ _ _ (sym c.judge_text.ensures ∙ c.in-Whole.is) in
+    let t = let whole : Whole c.args.text.now c.in-Whole.count c.in-Whole.faces c.in-Whole.points c.in-Whole.corners = whole_told _ _ _ _ _ (sym c.judge_text.ensures ∙ c.in-Whole.is) in
     lines_refused _ _ _ whole _ c.is_bad_count.ensures c.if-is_bad_count.false _
     c.is_short.ensures c.if-is_short.false
     c.read_lines.ensures.value c.read_lines.ensures.valences_after c.read_lines.ensures.rings_after c.read_lines.ensures.positions_after _ c.in-Refused-read_lines.is in
@@ -46,8 +42,7 @@ returns-in-Refused-read_lines c =
 
 pub returns-in-Accepted : goal.returns-in-Accepted
 returns-in-Accepted c =
-    let t = let whole : let v = c.count-1.given.0 in
-    Whole c.args.text.now v.0 v.1.0 v.1.1.0 v.1.1.1.0 = whole_told _ _ _ _ _ (sym c.judge_text.ensures ∙ c.in-Whole.is) in
+    let t = let whole : Whole c.args.text.now c.in-Whole.count c.in-Whole.faces c.in-Whole.points c.in-Whole.corners = whole_told _ _ _ _ _ (sym c.judge_text.ensures ∙ c.in-Whole.is) in
     lines_accepted _ _ _ whole _ c.is_bad_count.ensures c.if-is_bad_count.false _
     c.is_short.ensures c.if-is_short.false
     c.read_lines.ensures.value c.read_lines.ensures.valences_after c.read_lines.ensures.rings_after c.read_lines.ensures.positions_after c.in-Accepted.is in

@@ -56,8 +56,7 @@ is_full-requires c =
       q_is = c.greater-q.ensures;
       ring = c.ring_of-ring.ensures.result_value;
     } in
-    let after : let f = c.a-1.given.0 in
-    At f.0 f.1.0 ≡ after_in c.ring_of-ring.result.now c.greater-q.result = sym c.in-At.is ∙ c.after_in.ensures in
+    let after : At c.in-At.a c.in-At.place ≡ after_in c.ring_of-ring.result.now c.greater-q.result = sym c.in-At.is ∙ c.after_in.ensures in
     let e = ends in in_table e.checked _ (after_lt e after)
 
 pub returns-then-is_full : goal.returns-then-is_full
@@ -71,10 +70,8 @@ returns-then-is_full c =
       q_is = c.greater-q.ensures;
       ring = c.ring_of-ring.ensures.result_value;
     } in
-    let after : let f = c.a-1.given.0 in
-    At f.0 f.1.0 ≡ after_in c.ring_of-ring.result.now c.greater-q.result = sym c.in-At.is ∙ c.after_in.ensures in
-    let before : let f = c.b-1.given.0 in
-    At f.0 f.1.0 ≡ before_in c.ring_of-ring.result.now c.greater-q.result = sym c.in-At-before_in.is ∙ c.before_in.ensures in
+    let after : At c.in-At.a c.in-At.place ≡ after_in c.ring_of-ring.result.now c.greater-q.result = sym c.in-At.is ∙ c.after_in.ensures in
+    let before : At c.in-At-before_in.b c.in-At-before_in.place ≡ before_in c.ring_of-ring.result.now c.greater-q.result = sym c.in-At-before_in.is ∙ c.before_in.ensures in
     full_after ends after before _ c.is_full.ensures c.if-is_full.true
 
 pub is_full-requires-2 : goal.is_full-requires-2
@@ -88,10 +85,8 @@ is_full-requires-2 c =
       q_is = c.greater-q.ensures;
       ring = c.ring_of-ring.ensures.result_value;
     } in
-    let after : let f = c.a-1.given.0 in
-    At f.0 f.1.0 ≡ after_in c.ring_of-ring.result.now c.greater-q.result = sym c.in-At.is ∙ c.after_in.ensures in
-    let before : let f = c.b-1.given.0 in
-    At f.0 f.1.0 ≡ before_in c.ring_of-ring.result.now c.greater-q.result = sym c.in-At-before_in.is ∙ c.before_in.ensures in
+    let after : At c.in-At.a c.in-At.place ≡ after_in c.ring_of-ring.result.now c.greater-q.result = sym c.in-At.is ∙ c.after_in.ensures in
+    let before : At c.in-At-before_in.b c.in-At-before_in.place ≡ before_in c.ring_of-ring.result.now c.greater-q.result = sym c.in-At-before_in.is ∙ c.before_in.ensures in
     let e = ends in
     in_table e.checked _ (before_lt e after before)
 
@@ -106,10 +101,8 @@ returns-then-is_full-2 c =
       q_is = c.greater-q.ensures;
       ring = c.ring_of-ring.ensures.result_value;
     } in
-    let after : let f = c.a-1.given.0 in
-    At f.0 f.1.0 ≡ after_in c.ring_of-ring.result.now c.greater-q.result = sym c.in-At.is ∙ c.after_in.ensures in
-    let before : let f = c.b-1.given.0 in
-    At f.0 f.1.0 ≡ before_in c.ring_of-ring.result.now c.greater-q.result = sym c.in-At-before_in.is ∙ c.before_in.ensures in
+    let after : At c.in-At.a c.in-At.place ≡ after_in c.ring_of-ring.result.now c.greater-q.result = sym c.in-At.is ∙ c.after_in.ensures in
+    let before : At c.in-At-before_in.b c.in-At-before_in.place ≡ before_in c.ring_of-ring.result.now c.greater-q.result = sym c.in-At-before_in.is ∙ c.before_in.ensures in
     full_before ends after before _ c.is_full.ensures c.if-is_full.false _ c.is_full-2.ensures c.if-is_full-2.true
 
 pub returns : goal.returns
@@ -123,8 +116,6 @@ returns c =
       q_is = c.greater-q.ensures;
       ring = c.ring_of-ring.ensures.result_value;
     } in
-    let after : let f = c.a-1.given.0 in
-    At f.0 f.1.0 ≡ after_in c.ring_of-ring.result.now c.greater-q.result = sym c.in-At.is ∙ c.after_in.ensures in
-    let before : let f = c.b-1.given.0 in
-    At f.0 f.1.0 ≡ before_in c.ring_of-ring.result.now c.greater-q.result = sym c.in-At-before_in.is ∙ c.before_in.ensures in
+    let after : At c.in-At.a c.in-At.place ≡ after_in c.ring_of-ring.result.now c.greater-q.result = sym c.in-At.is ∙ c.after_in.ensures in
+    let before : At c.in-At-before_in.b c.in-At-before_in.place ≡ before_in c.ring_of-ring.result.now c.greater-q.result = sym c.in-At-before_in.is ∙ c.before_in.ensures in
     both_free ends after before _ c.is_full.ensures c.if-is_full.false _ c.is_full-2.ensures c.if-is_full-2.false

@@ -25,8 +25,7 @@ unfolding split_edge_verdict
 returns-in-Refused-judge_new c =
     let checked : let s = c.args in
     Accepted ≡ check_verdict s.count (lent s.valences.now s.rings.now) s.positions.now = sym c.in_default.is ∙ c.judge.ensures in
-    let handed : let s = c.args in let f = c.p-1.given.0 in
-    Edge f.0 f.1.0 f.1.1.0 f.1.1.1.0 ≡ Answer s.count (lent s.valences.now s.rings.now) s.u s.v = sym c.in-Edge.is ∙ c.judge_edge.ensures in
+    let handed : let s = c.args in Edge c.in-Edge.p c.in-Edge.q c.in-Edge.a c.in-Edge.b ≡ Answer s.count (lent s.valences.now s.rings.now) s.u s.v = sym c.in-Edge.is ∙ c.judge_edge.ensures in
     let no_room : let s = c.args in
     Refused c.in-Refused-judge_new.r ≡ new_verdict s.count (lent s.valences.now s.rings.now) s.positions.now = sym c.in-Refused-judge_new.is ∙ c.judge_new.ensures in
     by_last _ _ _ _ _ _ checked handed no_room
@@ -45,8 +44,7 @@ unfolding split_edge_verdict
 returns-in_default-judge_new c =
     let checked : let s = c.args in
     Accepted ≡ check_verdict s.count (lent s.valences.now s.rings.now) s.positions.now = sym c.in_default.is ∙ c.judge.ensures in
-    let handed : let s = c.args in let f = c.p-1.given.0 in
-    Edge f.0 f.1.0 f.1.1.0 f.1.1.1.0 ≡ Answer s.count (lent s.valences.now s.rings.now) s.u s.v = sym c.in-Edge.is ∙ c.judge_edge.ensures in
+    let handed : let s = c.args in Edge c.in-Edge.p c.in-Edge.q c.in-Edge.a c.in-Edge.b ≡ Answer s.count (lent s.valences.now s.rings.now) s.u s.v = sym c.in-Edge.is ∙ c.judge_edge.ensures in
     let room : let s = c.args in
     Accepted ≡ new_verdict s.count (lent s.valences.now s.rings.now) s.positions.now = sym c.in_default-judge_new.is ∙ c.judge_new.ensures in
     accepted _ _ _ _ _ _ checked handed room

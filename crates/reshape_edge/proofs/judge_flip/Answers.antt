@@ -24,8 +24,7 @@ pub cannot_flip-requires : goal.cannot_flip-requires
 cannot_flip-requires c =
     let checked : let s = c.args in
     Accepted ≡ check_verdict s.count (lent s.valences.now s.rings.now) s.positions.now = sym c.in_default.is ∙ c.judge.ensures in
-    let handed : let s = c.args in let f = c.p-1.given.0 in
-    Edge f.0 f.1.0 f.1.1.0 f.1.1.1.0 ≡ Answer s.count (lent s.valences.now s.rings.now) s.u s.v = sym c.in-Edge.is ∙ c.judge_edge.ensures in
+    let handed : let s = c.args in Edge c.in-Edge.p c.in-Edge.q c.in-Edge.a c.in-Edge.b ≡ Answer s.count (lent s.valences.now s.rings.now) s.u s.v = sym c.in-Edge.is ∙ c.judge_edge.ensures in
     found _ _ _ _ (passed_check _ _ _ checked) handed
 
 pub returns-then-cannot_flip : goal.returns-then-cannot_flip
@@ -33,8 +32,7 @@ unfolding flip_verdict
 returns-then-cannot_flip c =
     let checked : let s = c.args in
     Accepted ≡ check_verdict s.count (lent s.valences.now s.rings.now) s.positions.now = sym c.in_default.is ∙ c.judge.ensures in
-    let handed : let s = c.args in let f = c.p-1.given.0 in
-    Edge f.0 f.1.0 f.1.1.0 f.1.1.1.0 ≡ Answer s.count (lent s.valences.now s.rings.now) s.u s.v = sym c.in-Edge.is ∙ c.judge_edge.ensures in
+    let handed : let s = c.args in Edge c.in-Edge.p c.in-Edge.q c.in-Edge.a c.in-Edge.b ≡ Answer s.count (lent s.valences.now s.rings.now) s.u s.v = sym c.in-Edge.is ∙ c.judge_edge.ensures in
     by_last _ _ _ _ _ _ checked handed (cannot_turn _ _ _ _ _ handed c.cannot_flip.ensures c.if-cannot_flip.true)
 
 pub returns-in-Refused-judge_edge : goal.returns-in-Refused-judge_edge
@@ -51,6 +49,5 @@ unfolding flip_verdict
 returns-else-cannot_flip c =
     let checked : let s = c.args in
     Accepted ≡ check_verdict s.count (lent s.valences.now s.rings.now) s.positions.now = sym c.in_default.is ∙ c.judge.ensures in
-    let handed : let s = c.args in let f = c.p-1.given.0 in
-    Edge f.0 f.1.0 f.1.1.0 f.1.1.1.0 ≡ Answer s.count (lent s.valences.now s.rings.now) s.u s.v = sym c.in-Edge.is ∙ c.judge_edge.ensures in
+    let handed : let s = c.args in Edge c.in-Edge.p c.in-Edge.q c.in-Edge.a c.in-Edge.b ≡ Answer s.count (lent s.valences.now s.rings.now) s.u s.v = sym c.in-Edge.is ∙ c.judge_edge.ensures in
     accepted _ _ _ _ _ _ checked handed (can_turn _ _ _ _ _ handed c.cannot_flip.ensures c.if-cannot_flip.false)

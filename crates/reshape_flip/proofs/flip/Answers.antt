@@ -10,16 +10,14 @@ use Rattle.reshape_flip.proofs.flip.Goals as goal
 
 pub write_flip-requires : goal.write_flip-requires
 write_flip-requires c =
-    let handed : let a = c.args in let f = c.p-1.given.0 in
-    Edge f.0 f.1.0 f.1.1.0 f.1.1.1.0
+    let handed : let a = c.args in Edge c.in-Edge.p c.in-Edge.q c.in-Edge.a c.in-Edge.b
     ≡ with_edge (flip_verdict a.count (lent a.valences.now a.rings.now) a.positions.now a.u a.v)
     (rows a.count (lent a.valences.now a.rings.now)) a.u a.v = sym c.in-Edge.is ∙ c.judge_flip.ensures in
     flippable _ _ _ _ _ handed
 
 pub counts-requires : goal.counts-requires
 counts-requires c =
-    let t = let handed : let a = c.args in let f = c.p-1.given.0 in
-    Edge f.0 f.1.0 f.1.1.0 f.1.1.1.0
+    let t = let handed : let a = c.args in Edge c.in-Edge.p c.in-Edge.q c.in-Edge.a c.in-Edge.b
     ≡ with_edge (flip_verdict a.count (lent a.valences.now a.rings.now) a.positions.now a.u a.v)
     (rows a.count (lent a.valences.now a.rings.now)) a.u a.v = sym c.in-Edge.is ∙ c.judge_flip.ensures in
     edited_long (flipped _ _ _ _ _ handed) c.write_flip.ensures.rings_after c.write_flip.ensures.valences_after in
@@ -32,8 +30,7 @@ returns-in-Refused c =
 
 pub returns-in-Edge : goal.returns-in-Edge
 returns-in-Edge c =
-    let t = let handed : let a = c.args in let f = c.p-1.given.0 in
-    Edge f.0 f.1.0 f.1.1.0 f.1.1.1.0
+    let t = let handed : let a = c.args in Edge c.in-Edge.p c.in-Edge.q c.in-Edge.a c.in-Edge.b
     ≡ with_edge (flip_verdict a.count (lent a.valences.now a.rings.now) a.positions.now a.u a.v)
     (rows a.count (lent a.valences.now a.rings.now)) a.u a.v = sym c.in-Edge.is ∙ c.judge_flip.ensures in
     edited_done (flipped _ _ _ _ _ handed) c.write_flip.ensures.rings_after c.write_flip.ensures.valences_after c.counts.ensures in

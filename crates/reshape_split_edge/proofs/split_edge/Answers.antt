@@ -14,36 +14,30 @@ use Rattle.reshape_split_edge.proofs.split_edge.Goals as goal
 
 pub overflow_cast-ends : goal.overflow_cast-ends
 overflow_cast-ends c =
-    let handed : let a = c.args in let f = c.p-1.given.0 in
-    Edge f.0 f.1.0 f.1.1.0 f.1.1.1.0
+    let handed : let a = c.args in Edge c.in-Edge.p c.in-Edge.q c.in-Edge.a c.in-Edge.b
     ≡ with_edge (split_edge_verdict a.count (lent a.valences.now a.rings.now) a.positions.now a.u a.v)
     (rows a.count (lent a.valences.now a.rings.now)) a.u a.v = sym c.in-Edge.is ∙ c.judge_edge_split.ensures in
-    let ready : let a = c.args in let f = c.p-1.given.0 in
-    EdgeReady a.count (lent a.valences.now a.rings.now) f.0 f.1.0 f.1.1.0 f.1.1.1.0 = edge_splittable _ _ _ _ _ handed in
+    let ready : let a = c.args in EdgeReady a.count (lent a.valences.now a.rings.now) c.in-Edge.p c.in-Edge.q c.in-Edge.a c.in-Edge.b = edge_splittable _ _ _ _ _ handed in
     let place : let a = c.args in
     NewPlace a.count (lent a.valences.now a.rings.now) a.positions.now = edge_place _ _ _ _ _ handed in
     omega (arith, ready.p_lt, place.new.number)
 
 pub overflow_cast-ends-in-Edge : goal.overflow_cast-ends-in-Edge
 overflow_cast-ends-in-Edge c =
-    let handed : let a = c.args in let f = c.p-1.given.0 in
-    Edge f.0 f.1.0 f.1.1.0 f.1.1.1.0
+    let handed : let a = c.args in Edge c.in-Edge.p c.in-Edge.q c.in-Edge.a c.in-Edge.b
     ≡ with_edge (split_edge_verdict a.count (lent a.valences.now a.rings.now) a.positions.now a.u a.v)
     (rows a.count (lent a.valences.now a.rings.now)) a.u a.v = sym c.in-Edge.is ∙ c.judge_edge_split.ensures in
-    let ready : let a = c.args in let f = c.p-1.given.0 in
-    EdgeReady a.count (lent a.valences.now a.rings.now) f.0 f.1.0 f.1.1.0 f.1.1.1.0 = edge_splittable _ _ _ _ _ handed in
+    let ready : let a = c.args in EdgeReady a.count (lent a.valences.now a.rings.now) c.in-Edge.p c.in-Edge.q c.in-Edge.a c.in-Edge.b = edge_splittable _ _ _ _ _ handed in
     let place : let a = c.args in
     NewPlace a.count (lent a.valences.now a.rings.now) a.positions.now = edge_place _ _ _ _ _ handed in
     omega (arith, ready.q_lt, place.new.number)
 
 pub mean_point-requires : goal.mean_point-requires
 mean_point-requires c =
-    let handed : let a = c.args in let f = c.p-1.given.0 in
-    Edge f.0 f.1.0 f.1.1.0 f.1.1.1.0
+    let handed : let a = c.args in Edge c.in-Edge.p c.in-Edge.q c.in-Edge.a c.in-Edge.b
     ≡ with_edge (split_edge_verdict a.count (lent a.valences.now a.rings.now) a.positions.now a.u a.v)
     (rows a.count (lent a.valences.now a.rings.now)) a.u a.v = sym c.in-Edge.is ∙ c.judge_edge_split.ensures in
-    let ready : let a = c.args in let f = c.p-1.given.0 in
-    EdgeReady a.count (lent a.valences.now a.rings.now) f.0 f.1.0 f.1.1.0 f.1.1.1.0 = edge_splittable _ _ _ _ _ handed in
+    let ready : let a = c.args in EdgeReady a.count (lent a.valences.now a.rings.now) c.in-Edge.p c.in-Edge.q c.in-Edge.a c.in-Edge.b = edge_splittable _ _ _ _ _ handed in
     let place : let a = c.args in
     NewPlace a.count (lent a.valences.now a.rings.now) a.positions.now = edge_place _ _ _ _ _ handed in
     let m = place.new.number in
@@ -51,8 +45,7 @@ mean_point-requires c =
 
 pub set_point-requires : goal.set_point-requires
 set_point-requires c =
-    let handed : let a = c.args in let f = c.p-1.given.0 in
-    Edge f.0 f.1.0 f.1.1.0 f.1.1.1.0
+    let handed : let a = c.args in Edge c.in-Edge.p c.in-Edge.q c.in-Edge.a c.in-Edge.b
     ≡ with_edge (split_edge_verdict a.count (lent a.valences.now a.rings.now) a.positions.now a.u a.v)
     (rows a.count (lent a.valences.now a.rings.now)) a.u a.v = sym c.in-Edge.is ∙ c.judge_edge_split.ensures in
     let place : let a = c.args in
@@ -63,20 +56,17 @@ set_point-requires c =
 
 pub write_edge_split-requires : goal.write_edge_split-requires
 write_edge_split-requires c =
-    let handed : let a = c.args in let f = c.p-1.given.0 in
-    Edge f.0 f.1.0 f.1.1.0 f.1.1.1.0
+    let handed : let a = c.args in Edge c.in-Edge.p c.in-Edge.q c.in-Edge.a c.in-Edge.b
     ≡ with_edge (split_edge_verdict a.count (lent a.valences.now a.rings.now) a.positions.now a.u a.v)
     (rows a.count (lent a.valences.now a.rings.now)) a.u a.v = sym c.in-Edge.is ∙ c.judge_edge_split.ensures in
-    let ready : let a = c.args in let f = c.p-1.given.0 in
-    EdgeReady a.count (lent a.valences.now a.rings.now) f.0 f.1.0 f.1.1.0 f.1.1.1.0 = edge_splittable _ _ _ _ _ handed in
+    let ready : let a = c.args in EdgeReady a.count (lent a.valences.now a.rings.now) c.in-Edge.p c.in-Edge.q c.in-Edge.a c.in-Edge.b = edge_splittable _ _ _ _ _ handed in
     let place : let a = c.args in
     NewPlace a.count (lent a.valences.now a.rings.now) a.positions.now = edge_place _ _ _ _ _ handed in
     record { edge_ready = ready; new_ready = place.new }
 
 pub overflow_add-count : goal.overflow_add-count
 overflow_add-count c =
-    let handed : let a = c.args in let f = c.p-1.given.0 in
-    Edge f.0 f.1.0 f.1.1.0 f.1.1.1.0
+    let handed : let a = c.args in Edge c.in-Edge.p c.in-Edge.q c.in-Edge.a c.in-Edge.b
     ≡ with_edge (split_edge_verdict a.count (lent a.valences.now a.rings.now) a.positions.now a.u a.v)
     (rows a.count (lent a.valences.now a.rings.now)) a.u a.v = sym c.in-Edge.is ∙ c.judge_edge_split.ensures in
     let place : let a = c.args in
@@ -85,8 +75,7 @@ overflow_add-count c =
 
 pub counts-requires : goal.counts-requires
 counts-requires c =
-    let t = let handed : let a = c.args in let f = c.p-1.given.0 in
-    Edge f.0 f.1.0 f.1.1.0 f.1.1.1.0
+    let t = let handed : let a = c.args in Edge c.in-Edge.p c.in-Edge.q c.in-Edge.a c.in-Edge.b
     ≡ with_edge (split_edge_verdict a.count (lent a.valences.now a.rings.now) a.positions.now a.u a.v)
     (rows a.count (lent a.valences.now a.rings.now)) a.u a.v = sym c.in-Edge.is ∙ c.judge_edge_split.ensures in
     split_long (edge_split _ _ _ _ _ handed) c.write_edge_split.ensures.rings_after c.write_edge_split.ensures.valences_after in
@@ -99,8 +88,7 @@ returns-in-Refused c =
 
 pub returns-in-Edge : goal.returns-in-Edge
 returns-in-Edge c =
-    let t = let handed : let a = c.args in let f = c.p-1.given.0 in
-    Edge f.0 f.1.0 f.1.1.0 f.1.1.1.0
+    let t = let handed : let a = c.args in Edge c.in-Edge.p c.in-Edge.q c.in-Edge.a c.in-Edge.b
     ≡ with_edge (split_edge_verdict a.count (lent a.valences.now a.rings.now) a.positions.now a.u a.v)
     (rows a.count (lent a.valences.now a.rings.now)) a.u a.v = sym c.in-Edge.is ∙ c.judge_edge_split.ensures in
     split_done (edge_split _ _ _ _ _ handed) c.write_edge_split.ensures.rings_after c.write_edge_split.ensures.valences_after

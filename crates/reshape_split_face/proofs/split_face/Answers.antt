@@ -14,44 +14,36 @@ use Rattle.reshape_split_face.proofs.split_face.Goals as goal
 
 pub overflow_cast-corners : goal.overflow_cast-corners
 overflow_cast-corners c =
-    let handed : let a = c.args in let f = c.u-1.given.0 in
-    Face f.0 f.1.0 f.1.1.0
+    let handed : let a = c.args in Face c.in-Face.u c.in-Face.v c.in-Face.w
     ≡ with_face (split_face_verdict a.count (lent a.valences.now a.rings.now) a.positions.now a.u a.v a.w) a.u a.v a.w = sym c.in-Face.is ∙ c.judge_face_split.ensures in
-    let ready : let a = c.args in let f = c.u-1.given.0 in
-    FaceReady a.count (lent a.valences.now a.rings.now) f.0 f.1.0 f.1.1.0 = face_splittable _ _ _ _ _ _ handed in
+    let ready : let a = c.args in FaceReady a.count (lent a.valences.now a.rings.now) c.in-Face.u c.in-Face.v c.in-Face.w = face_splittable _ _ _ _ _ _ handed in
     let place : let a = c.args in
     NewPlace a.count (lent a.valences.now a.rings.now) a.positions.now = face_place _ _ _ _ _ _ handed in
     omega (arith, ready.u_lt, place.new.number)
 
 pub overflow_cast-corners-in-Face : goal.overflow_cast-corners-in-Face
 overflow_cast-corners-in-Face c =
-    let handed : let a = c.args in let f = c.u-1.given.0 in
-    Face f.0 f.1.0 f.1.1.0
+    let handed : let a = c.args in Face c.in-Face.u c.in-Face.v c.in-Face.w
     ≡ with_face (split_face_verdict a.count (lent a.valences.now a.rings.now) a.positions.now a.u a.v a.w) a.u a.v a.w = sym c.in-Face.is ∙ c.judge_face_split.ensures in
-    let ready : let a = c.args in let f = c.u-1.given.0 in
-    FaceReady a.count (lent a.valences.now a.rings.now) f.0 f.1.0 f.1.1.0 = face_splittable _ _ _ _ _ _ handed in
+    let ready : let a = c.args in FaceReady a.count (lent a.valences.now a.rings.now) c.in-Face.u c.in-Face.v c.in-Face.w = face_splittable _ _ _ _ _ _ handed in
     let place : let a = c.args in
     NewPlace a.count (lent a.valences.now a.rings.now) a.positions.now = face_place _ _ _ _ _ _ handed in
     omega (arith, ready.v_lt, place.new.number)
 
 pub overflow_cast-corners-in-Face-2 : goal.overflow_cast-corners-in-Face-2
 overflow_cast-corners-in-Face-2 c =
-    let handed : let a = c.args in let f = c.u-1.given.0 in
-    Face f.0 f.1.0 f.1.1.0
+    let handed : let a = c.args in Face c.in-Face.u c.in-Face.v c.in-Face.w
     ≡ with_face (split_face_verdict a.count (lent a.valences.now a.rings.now) a.positions.now a.u a.v a.w) a.u a.v a.w = sym c.in-Face.is ∙ c.judge_face_split.ensures in
-    let ready : let a = c.args in let f = c.u-1.given.0 in
-    FaceReady a.count (lent a.valences.now a.rings.now) f.0 f.1.0 f.1.1.0 = face_splittable _ _ _ _ _ _ handed in
+    let ready : let a = c.args in FaceReady a.count (lent a.valences.now a.rings.now) c.in-Face.u c.in-Face.v c.in-Face.w = face_splittable _ _ _ _ _ _ handed in
     let place : let a = c.args in
     NewPlace a.count (lent a.valences.now a.rings.now) a.positions.now = face_place _ _ _ _ _ _ handed in
     omega (arith, ready.w_lt, place.new.number)
 
 pub mean_point-requires : goal.mean_point-requires
 mean_point-requires c =
-    let handed : let a = c.args in let f = c.u-1.given.0 in
-    Face f.0 f.1.0 f.1.1.0
+    let handed : let a = c.args in Face c.in-Face.u c.in-Face.v c.in-Face.w
     ≡ with_face (split_face_verdict a.count (lent a.valences.now a.rings.now) a.positions.now a.u a.v a.w) a.u a.v a.w = sym c.in-Face.is ∙ c.judge_face_split.ensures in
-    let ready : let a = c.args in let f = c.u-1.given.0 in
-    FaceReady a.count (lent a.valences.now a.rings.now) f.0 f.1.0 f.1.1.0 = face_splittable _ _ _ _ _ _ handed in
+    let ready : let a = c.args in FaceReady a.count (lent a.valences.now a.rings.now) c.in-Face.u c.in-Face.v c.in-Face.w = face_splittable _ _ _ _ _ _ handed in
     let place : let a = c.args in
     NewPlace a.count (lent a.valences.now a.rings.now) a.positions.now = face_place _ _ _ _ _ _ handed in
     let f = ready in
@@ -61,8 +53,7 @@ mean_point-requires c =
 
 pub set_point-requires : goal.set_point-requires
 set_point-requires c =
-    let handed : let a = c.args in let f = c.u-1.given.0 in
-    Face f.0 f.1.0 f.1.1.0
+    let handed : let a = c.args in Face c.in-Face.u c.in-Face.v c.in-Face.w
     ≡ with_face (split_face_verdict a.count (lent a.valences.now a.rings.now) a.positions.now a.u a.v a.w) a.u a.v a.w = sym c.in-Face.is ∙ c.judge_face_split.ensures in
     let place : let a = c.args in
     NewPlace a.count (lent a.valences.now a.rings.now) a.positions.now = face_place _ _ _ _ _ _ handed in
@@ -72,19 +63,16 @@ set_point-requires c =
 
 pub write_face_split-requires : goal.write_face_split-requires
 write_face_split-requires c =
-    let handed : let a = c.args in let f = c.u-1.given.0 in
-    Face f.0 f.1.0 f.1.1.0
+    let handed : let a = c.args in Face c.in-Face.u c.in-Face.v c.in-Face.w
     ≡ with_face (split_face_verdict a.count (lent a.valences.now a.rings.now) a.positions.now a.u a.v a.w) a.u a.v a.w = sym c.in-Face.is ∙ c.judge_face_split.ensures in
-    let ready : let a = c.args in let f = c.u-1.given.0 in
-    FaceReady a.count (lent a.valences.now a.rings.now) f.0 f.1.0 f.1.1.0 = face_splittable _ _ _ _ _ _ handed in
+    let ready : let a = c.args in FaceReady a.count (lent a.valences.now a.rings.now) c.in-Face.u c.in-Face.v c.in-Face.w = face_splittable _ _ _ _ _ _ handed in
     let place : let a = c.args in
     NewPlace a.count (lent a.valences.now a.rings.now) a.positions.now = face_place _ _ _ _ _ _ handed in
     record { face_ready = ready; new_ready = place.new }
 
 pub overflow_add-count : goal.overflow_add-count
 overflow_add-count c =
-    let handed : let a = c.args in let f = c.u-1.given.0 in
-    Face f.0 f.1.0 f.1.1.0
+    let handed : let a = c.args in Face c.in-Face.u c.in-Face.v c.in-Face.w
     ≡ with_face (split_face_verdict a.count (lent a.valences.now a.rings.now) a.positions.now a.u a.v a.w) a.u a.v a.w = sym c.in-Face.is ∙ c.judge_face_split.ensures in
     let place : let a = c.args in
     NewPlace a.count (lent a.valences.now a.rings.now) a.positions.now = face_place _ _ _ _ _ _ handed in
@@ -92,8 +80,7 @@ overflow_add-count c =
 
 pub counts-requires : goal.counts-requires
 counts-requires c =
-    let t = let handed : let a = c.args in let f = c.u-1.given.0 in
-    Face f.0 f.1.0 f.1.1.0
+    let t = let handed : let a = c.args in Face c.in-Face.u c.in-Face.v c.in-Face.w
     ≡ with_face (split_face_verdict a.count (lent a.valences.now a.rings.now) a.positions.now a.u a.v a.w) a.u a.v a.w = sym c.in-Face.is ∙ c.judge_face_split.ensures in
     split_long (face_split _ _ _ _ _ _ handed) c.write_face_split.ensures.rings_after c.write_face_split.ensures.valences_after in
     record { count_in_bounds = t.0; count_le_most_count = t.1 }
@@ -105,8 +92,7 @@ returns-in-Refused c =
 
 pub returns-in-Face : goal.returns-in-Face
 returns-in-Face c =
-    let t = let handed : let a = c.args in let f = c.u-1.given.0 in
-    Face f.0 f.1.0 f.1.1.0
+    let t = let handed : let a = c.args in Face c.in-Face.u c.in-Face.v c.in-Face.w
     ≡ with_face (split_face_verdict a.count (lent a.valences.now a.rings.now) a.positions.now a.u a.v a.w) a.u a.v a.w = sym c.in-Face.is ∙ c.judge_face_split.ensures in
     split_done (face_split _ _ _ _ _ _ handed) c.write_face_split.ensures.rings_after c.write_face_split.ensures.valences_after
     c.set_point.ensures c.mean_point.ensures c.counts.ensures in

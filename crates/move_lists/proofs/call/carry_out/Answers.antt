@@ -63,12 +63,10 @@ pub count-requires : goal.count-requires
 count-requires c =
     let judgement : let a = c.args in Judged a.plan.count a.levels (lent a.valences.now a.rings.now) a.positions.now (length a.map.now) a.moves = judged _ _ _ _ _ _ c.requires.moves_value in
     let whole-counted : let a = c.args in c.stack_count-whole.result ≡ whole a.plan.count a.levels (lent a.valences.now a.rings.now) a.positions.now = whole_is judgement.stack _ _ c.edge_count-edges.ensures.value c.stack_count-whole.ensures.value in
-    let s =
-    c.before.before.before.before.before.before.before.before.before.before.before.before.before.before.before.before.before.before.before.before.before.before in
-    let j = judgement s in
-    let low = fair_low s.args.plan s.requires.0 in
-    let near = fair_near s.args.plan s.requires.0 in
-    let n = control_in_map j (planned s.args.plan) low near in
+    let j = judgement in
+    let low = fair_low c.args.plan c.requires.fair in
+    let near = fair_near c.args.plan c.requires.fair in
+    let n = control_in_map j (planned c.args.plan) low near in
     let r = j.room in
     let w = whole-counted in
     let k = whole_small j.stack in
@@ -82,12 +80,10 @@ pub returns : goal.returns
 returns c =
     let judgement : let a = c.args in Judged a.plan.count a.levels (lent a.valences.now a.rings.now) a.positions.now (length a.map.now) a.moves = judged _ _ _ _ _ _ c.requires.moves_value in
     let whole-counted : let a = c.args in c.stack_count-whole.result ≡ whole a.plan.count a.levels (lent a.valences.now a.rings.now) a.positions.now = whole_is judgement.stack _ _ c.edge_count-edges.ensures.value c.stack_count-whole.ensures.value in
-    let s =
-    c.before.before.before.before.before.before.before.before.before.before.before.before.before.before.before.before.before.before.before.before.before.before.before in
-    let j = judgement s in
-    let low = fair_low s.args.plan s.requires.0 in
-    let near = fair_near s.args.plan s.requires.0 in
-    let n = control_in_map j (planned s.args.plan) low near in
+    let j = judgement in
+    let low = fair_low c.args.plan c.requires.fair in
+    let near = fair_near c.args.plan c.requires.fair in
+    let n = control_in_map j (planned c.args.plan) low near in
     let r = j.room in
     let cleared =
     rw whole-counted
@@ -98,11 +94,11 @@ returns c =
       value = rw
           whole-counted
           at c.count.ensures.value_2
-          ∙ counted j (planned s.args.plan) low near _ _ _ cleared named _ t;
-      positions_after = positions_after j (planned s.args.plan) low near _ _ _ cleared named _ t _ _
+          ∙ counted j (planned c.args.plan) low near _ _ _ cleared named _ t;
+      positions_after = positions_after j (planned c.args.plan) low near _ _ _ cleared named _ t _ _
           c.write_control.ensures.positions_after
           c.refresh_levels.ensures.positions_after;
-      map_after = map_marked j (planned s.args.plan) low near _ _ _ cleared named _ t r
+      map_after = map_marked j (planned c.args.plan) low near _ _ _ cleared named _ t r
           (record { small = λ w. (c.slice_known-1.given w).fits })
           (record { small = λ w. (c.slice_known-4-1.given w).fits })
           (omega (arith, c.clear.auto.map, c.write_control.auto.1, c.refresh_levels.auto.map));

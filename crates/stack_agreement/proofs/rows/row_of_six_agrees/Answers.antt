@@ -68,99 +68,69 @@ returns-then-not-is_edge_vertex-3 c = no_tells
 
 pub bounds-row-3 : goal.bounds-row-3
 bounds-row-3 c =
-    let s =
-    c.before.before.before.before.before.before.before.before.before.before.before.before.before.before.before.before.before.before.before.before.before.before in
-    six_place s.args.row.now s.requires.1.1.0 3 (lit< tt)
+    six_place c.args.row.now c.requires.row_len 3 (lit< tt)
 
 pub bounds-next-3-2 : goal.bounds-next-3-2
 bounds-next-3-2 c =
-    let s =
-    c.before.before.before.before.before.before.before.before.before.before.before.before.before.before.before.before.before.before.before.before.before.before.before in
-    six_place s.args.next.now s.requires.1.1.1 3 (lit< tt)
+    six_place c.args.next.now c.requires.next_len 3 (lit< tt)
 
 pub bounds-next-2-3 : goal.bounds-next-2-3
 bounds-next-2-3 c =
-    let s =
-    c.before.before.before.before.before.before.before.before.before.before.before.before.before.before.before.before.before.before.before.before.before.before.before.before in
-    six_place s.args.next.now s.requires.1.1.1 2 (lit< tt)
+    six_place c.args.next.now c.requires.next_len 2 (lit< tt)
 
 pub bounds-next-4 : goal.bounds-next-4
 bounds-next-4 c =
-    let s =
-    c.before.before.before.before.before.before.before.before.before.before.before.before.before.before.before.before.before.before.before.before.before.before.before.before.before in
-    six_place s.args.next.now s.requires.1.1.1 4 (lit< tt)
+    six_place c.args.next.now c.requires.next_len 4 (lit< tt)
 
 pub is_edge_vertex-requires-4 : goal.is_edge_vertex-requires-4
 is_edge_vertex-requires-4 c =
-    let s =
-    c.before.before.before.before.before.before.before.before.before.before.before.before.before.before.before.before.before.before.before.before.before.before.before.before.before in
-    record { end_le_most_vertices = s.requires.0; most_valence_in_bounds = s.requires.1.0 }
+    record { end_le_most_vertices = c.requires.end_le_most_vertices; most_valence_in_bounds = c.requires.most_valence_in_bounds }
 
 pub returns-then-not-is_edge_vertex-4 : goal.returns-then-not-is_edge_vertex-4
 returns-then-not-is_edge_vertex-4 c = no_tells
 
 pub bounds-row-4 : goal.bounds-row-4
 bounds-row-4 c =
-    let s =
-    c.before.before.before.before.before.before.before.before.before.before.before.before.before.before.before.before.before.before.before.before.before.before.before.before.before.before.before.before in
-    six_place s.args.row.now s.requires.1.1.0 4 (lit< tt)
+    six_place c.args.row.now c.requires.row_len 4 (lit< tt)
 
 pub bounds-next-4-2 : goal.bounds-next-4-2
 bounds-next-4-2 c =
-    let s =
-    c.before.before.before.before.before.before.before.before.before.before.before.before.before.before.before.before.before.before.before.before.before.before.before.before.before.before.before.before.before in
-    six_place s.args.next.now s.requires.1.1.1 4 (lit< tt)
+    six_place c.args.next.now c.requires.next_len 4 (lit< tt)
 
 pub bounds-next-3-3 : goal.bounds-next-3-3
 bounds-next-3-3 c =
-    let s =
-    c.before.before.before.before.before.before.before.before.before.before.before.before.before.before.before.before.before.before.before.before.before.before.before.before.before.before.before.before.before.before in
-    six_place s.args.next.now s.requires.1.1.1 3 (lit< tt)
+    six_place c.args.next.now c.requires.next_len 3 (lit< tt)
 
 pub bounds-next-5-2 : goal.bounds-next-5-2
 bounds-next-5-2 c =
-    let s =
-    c.before.before.before.before.before.before.before.before.before.before.before.before.before.before.before.before.before.before.before.before.before.before.before.before.before.before.before.before.before.before.before in
-    six_place s.args.next.now s.requires.1.1.1 5 (lit< tt)
+    six_place c.args.next.now c.requires.next_len 5 (lit< tt)
 
 pub is_edge_vertex-requires-5 : goal.is_edge_vertex-requires-5
 is_edge_vertex-requires-5 c =
-    let s =
-    c.before.before.before.before.before.before.before.before.before.before.before.before.before.before.before.before.before.before.before.before.before.before.before.before.before.before.before.before.before.before.before in
-    record { end_le_most_vertices = s.requires.0; most_valence_in_bounds = s.requires.1.0 }
+    record { end_le_most_vertices = c.requires.end_le_most_vertices; most_valence_in_bounds = c.requires.most_valence_in_bounds }
 
 pub returns-then-not-is_edge_vertex-5 : goal.returns-then-not-is_edge_vertex-5
 returns-then-not-is_edge_vertex-5 c = no_tells
 
 pub bounds-row-5 : goal.bounds-row-5
 bounds-row-5 c =
-    let s =
-    c.before.before.before.before.before.before.before.before.before.before.before.before.before.before.before.before.before.before.before.before.before.before.before.before.before.before.before.before.before.before.before.before.before.before in
-    six_place s.args.row.now s.requires.1.1.0 5 (lit< tt)
+    six_place c.args.row.now c.requires.row_len 5 (lit< tt)
 
 pub bounds-next-5-3 : goal.bounds-next-5-3
 bounds-next-5-3 c =
-    let s =
-    c.before.before.before.before.before.before.before.before.before.before.before.before.before.before.before.before.before.before.before.before.before.before.before.before.before.before.before.before.before.before.before.before.before.before.before in
-    six_place s.args.next.now s.requires.1.1.1 5 (lit< tt)
+    six_place c.args.next.now c.requires.next_len 5 (lit< tt)
 
 pub bounds-next-4-3 : goal.bounds-next-4-3
 bounds-next-4-3 c =
-    let s =
-    c.before.before.before.before.before.before.before.before.before.before.before.before.before.before.before.before.before.before.before.before.before.before.before.before.before.before.before.before.before.before.before.before.before.before.before.before in
-    six_place s.args.next.now s.requires.1.1.1 4 (lit< tt)
+    six_place c.args.next.now c.requires.next_len 4 (lit< tt)
 
 pub bounds-next-0-3 : goal.bounds-next-0-3
 bounds-next-0-3 c =
-    let s =
-    c.before.before.before.before.before.before.before.before.before.before.before.before.before.before.before.before.before.before.before.before.before.before.before.before.before.before.before.before.before.before.before.before.before.before.before.before.before in
-    six_place s.args.next.now s.requires.1.1.1 0 (lit< tt)
+    six_place c.args.next.now c.requires.next_len 0 (lit< tt)
 
 pub is_edge_vertex-requires-6 : goal.is_edge_vertex-requires-6
 is_edge_vertex-requires-6 c =
-    let s =
-    c.before.before.before.before.before.before.before.before.before.before.before.before.before.before.before.before.before.before.before.before.before.before.before.before.before.before.before.before.before.before.before.before.before.before.before.before.before in
-    record { end_le_most_vertices = s.requires.0; most_valence_in_bounds = s.requires.1.0 }
+    record { end_le_most_vertices = c.requires.end_le_most_vertices; most_valence_in_bounds = c.requires.most_valence_in_bounds }
 
 pub returns : goal.returns
 returns c =

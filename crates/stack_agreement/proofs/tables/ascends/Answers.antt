@@ -1,11 +1,11 @@
 -- `ascends` meets its contract. Assumes nothing.
 use Prim.Native.Nat.{◌+◌, ◌-◌, ◌*◌}
-use mathlib.Core.Logic.{⊎_elim}
 use native.Mathlib.Omega.{arith}
 use borrow.Author.Tests.{eqb-true}
 use Rattle.stack_agreement.specs.Agreement.{edge_key}
 use Rattle.stack_agreement.proofs.Telling.{rising_none, rising_fall, rising_more}
 use Rattle.stack_agreement.proofs.tables.ascends.Goals as goal
+use Rattle.stack_agreement.proofs.tables.ascends.Goals.{then-key-least, else-key-least}
 
 pub loop-x-init : goal.loop-x-init
 loop-x-init c = (omega arith, rising_none)
@@ -34,7 +34,7 @@ pub loop-x-preserved : goal.loop-x-preserved
 unfolding edge_key
 loop-x-preserved c =
     let t = c.loop-x.invariant.1 in
-    ⊎_elim (λ w. (omega arith, rising_fall t w.1)) (λ w. (omega arith, rising_more t w.1 w.0.left)) c.if-key-least.branch
+    elim c.if-key-least.branch [ then-key-least w ↦ (omega arith, rising_fall t w.falls-is) | else-key-least w ↦ (omega arith, rising_more t w.falls-is w.if-key-least.false) ]
 
 pub returns : goal.returns
 returns c = λ e. record { later = λ x y l h. (c.loop-x.invariant.1.climbing (eqb-true _ _ e)).ascends.later x y l (omega arith) }
