@@ -1,7 +1,7 @@
 -- What refinement writes is as refinement gives it: in the tables after an accepted refinement no stack vertex is strange, so that reason 11 is told only of
 -- tables that were altered from outside. Assumes nothing.
 use Prim.Native.Nat.{ℕ, suc, ◌+◌, ◌<◌}
-use mathlib.Core.Path.{◌≡◌, sym, ◌∙◌}
+use mathlib.Core.Path.{◌≡◌, sym, ◌∙◌, subst}
 use mathlib.Core.Bool.{false}
 use mathlib.Core.List.{List}
 use lib.IntN.{ℤ}
@@ -49,7 +49,7 @@ module _ (n levels : ℕ) (t : Lent) (ps : List ℤ) (accepted : Accepted ≡ st
 
     vertex_is_not_strange : strange n levels t' ps' (level_start (sizes_of n (rows n t')) (suc k) + x) ≡ false
     vertex_is_not_strange =
-        strange_is n levels t' ps' k x l (rw stays h)
+        strange_is n levels t' ps' k x l (subst (λ (N : Mesh). x < level_count (sizes_of n N) (suc k)) (sym stays) h)
         ∙ rw stays
         (not_other ((level M (suc k)).ring x) t' ps' (level_start (sizes_of n M) (suc k) + x)
         (valence_is_refined n levels t ps accepted (suc k) x l there)
@@ -58,4 +58,4 @@ module _ (n levels : ℕ) (t : Lent) (ps : List ℤ) (accepted : Accepted ≡ st
 
   pub refined_is_not_strange : whole n levels t' ps' ≡ first (strange n levels t' ps') (whole n levels t' ps')
   unfolding whole
-  refined_is_not_strange = clear_all (clear_stack n levels t' ps' (λ k x l h. vertex_is_not_strange k x l (rw stays at h)))
+  refined_is_not_strange = clear_all (clear_stack n levels t' ps' (λ k x l h. vertex_is_not_strange k x l (subst (λ (N : Mesh). x < level_count (sizes_of n N) (suc k)) stays h)))

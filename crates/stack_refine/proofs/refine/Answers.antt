@@ -9,8 +9,9 @@ use Rattle.stack_refine.proofs.refine.Goals as goal
 
 pub returns-in-Refused : goal.returns-in-Refused
 returns-in-Refused c =
-    let t = let e = sym c.in-Refused.is ∙ c.judge_stack.ensures in (refused_answer _ _ _ _ _ e, refused_tables _ _ _ _ _ e) in
-    record { value = t.0; valences_after = t.1.0; rings_after = t.1.1.0; positions_after = t.1.1.1 }
+    let e = sym c.in-Refused.is ∙ c.judge_stack.ensures in
+    let t = refused_tables _ _ _ _ _ e in
+    record { value = refused_answer _ _ _ _ _ e; valences_after = t.0; rings_after = t.1.0; positions_after = t.1.1 }
 
 pub write_levels-requires : goal.write_levels-requires
 write_levels-requires c =

@@ -27,7 +27,7 @@ pub clear_ahead-skip-requires : goal.clear_ahead-skip-requires
 clear_ahead-skip-requires c =
     let m = c.requires.in_map.room in
     let e = c.requires.above_value in
-    let k = c.mark_next.kept.0 in
+    let k = c.mark_next.auto.map in
     omega arith
 
 pub refresh_vertex-requires : goal.refresh_vertex-requires
@@ -35,7 +35,7 @@ refresh_vertex-requires c =
     let both : BothLevels c.args.base c.args.count (lent c.args.valences.now c.args.rings.now) c.args.map.now = record { numbers = c.requires.in_map; ready = c.requires.levels.ready; rings = c.requires.next_rings } in
     let e = c.requires.above_value in
     let l = c.loop-x-test.true in
-    record { both_levels = both_long both c.mark_next.kept.0; levels = levels_kept c.requires.levels c.loop-x.invariant.1 (omega arith); x_bound = omega arith }
+    record { both_levels = both_long both c.mark_next.auto.map; levels = levels_kept c.requires.levels c.loop-x.invariant.1 (omega arith); x_bound = omega arith }
 
 pub loop-x-preserved-then-skip-eq0 : goal.loop-x-preserved-then-skip-eq0
 unfolding rows

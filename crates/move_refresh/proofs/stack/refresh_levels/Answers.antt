@@ -3,6 +3,7 @@ use Prim.Native.Nat.{◌*◌, ◌≤◌, ◌+◌, ◌-◌}
 use mathlib.Core.Path.{◌≡◌, refl}
 use native.Mathlib.Omega.{arith}
 use lib.ListN.{length}
+use borrow.Author.Rules.{rules}
 use Rattle.move_refresh.proofs.Raised.{edges_counted, raised_none, raised_fits, raised_small, next_requires, raised_more, raised_end}
 use Rattle.move_refresh.proofs.stack.refresh_levels.Goals as goal
 
@@ -36,6 +37,20 @@ slice_bounds-refresh_next-count c =
     × ((b.start ≤ length c.args.valences.now) × ((b.start * 32 ≤ length c.args.rings.now) × (b.start * 3 ≤ length c.loop-k.positions))) = raised_fits c.requires.stack_ready _ c.loop-k.invariant.1 c.loop-k-test.true in
     let f = fits in omega arith
 
+pub slice_bounds-refresh_next-start : goal.slice_bounds-refresh_next-start
+slice_bounds-refresh_next-start c =
+    let fits : let b = c.loop-k.below in
+    (b.start + (b.vertices + (b.vertices + b.edges)) ≤ 327675)
+    × ((b.start ≤ length c.args.valences.now) × ((b.start * 32 ≤ length c.args.rings.now) × (b.start * 3 ≤ length c.loop-k.positions))) = raised_fits c.requires.stack_ready _ c.loop-k.invariant.1 c.loop-k-test.true in
+    let f = fits in search rules
+
+pub slice_bounds-refresh_next-end : goal.slice_bounds-refresh_next-end
+slice_bounds-refresh_next-end c =
+    let fits : let b = c.loop-k.below in
+    (b.start + (b.vertices + (b.vertices + b.edges)) ≤ 327675)
+    × ((b.start ≤ length c.args.valences.now) × ((b.start * 32 ≤ length c.args.rings.now) × (b.start * 3 ≤ length c.loop-k.positions))) = raised_fits c.requires.stack_ready _ c.loop-k.invariant.1 c.loop-k-test.true in
+    let f = fits in search rules
+
 pub offset_bounds-valences-base : goal.offset_bounds-valences-base
 offset_bounds-valences-base c =
     let fits : let b = c.loop-k.below in
@@ -49,6 +64,20 @@ slice_bounds-refresh_next-count-in-loop-k c =
     (b.start + (b.vertices + (b.vertices + b.edges)) ≤ 327675)
     × ((b.start ≤ length c.args.valences.now) × ((b.start * 32 ≤ length c.args.rings.now) × (b.start * 3 ≤ length c.loop-k.positions))) = raised_fits c.requires.stack_ready _ c.loop-k.invariant.1 c.loop-k-test.true in
     let f = fits in omega arith
+
+pub slice_bounds-refresh_next-start-in-loop-k : goal.slice_bounds-refresh_next-start-in-loop-k
+slice_bounds-refresh_next-start-in-loop-k c =
+    let fits : let b = c.loop-k.below in
+    (b.start + (b.vertices + (b.vertices + b.edges)) ≤ 327675)
+    × ((b.start ≤ length c.args.valences.now) × ((b.start * 32 ≤ length c.args.rings.now) × (b.start * 3 ≤ length c.loop-k.positions))) = raised_fits c.requires.stack_ready _ c.loop-k.invariant.1 c.loop-k-test.true in
+    let f = fits in search rules
+
+pub slice_bounds-refresh_next-end-in-loop-k : goal.slice_bounds-refresh_next-end-in-loop-k
+slice_bounds-refresh_next-end-in-loop-k c =
+    let fits : let b = c.loop-k.below in
+    (b.start + (b.vertices + (b.vertices + b.edges)) ≤ 327675)
+    × ((b.start ≤ length c.args.valences.now) × ((b.start * 32 ≤ length c.args.rings.now) × (b.start * 3 ≤ length c.loop-k.positions))) = raised_fits c.requires.stack_ready _ c.loop-k.invariant.1 c.loop-k-test.true in
+    let f = fits in search rules
 
 pub overflow_mul-base-in-loop-k : goal.overflow_mul-base-in-loop-k
 overflow_mul-base-in-loop-k c =
@@ -70,6 +99,20 @@ slice_bounds-refresh_next-count-in-loop-k-2 c =
     (b.start + (b.vertices + (b.vertices + b.edges)) ≤ 327675)
     × ((b.start ≤ length c.args.valences.now) × ((b.start * 32 ≤ length c.args.rings.now) × (b.start * 3 ≤ length c.loop-k.positions))) = raised_fits c.requires.stack_ready _ c.loop-k.invariant.1 c.loop-k-test.true in
     let f = fits in omega arith
+
+pub slice_bounds-refresh_next-start-in-loop-k-2 : goal.slice_bounds-refresh_next-start-in-loop-k-2
+slice_bounds-refresh_next-start-in-loop-k-2 c =
+    let fits : let b = c.loop-k.below in
+    (b.start + (b.vertices + (b.vertices + b.edges)) ≤ 327675)
+    × ((b.start ≤ length c.args.valences.now) × ((b.start * 32 ≤ length c.args.rings.now) × (b.start * 3 ≤ length c.loop-k.positions))) = raised_fits c.requires.stack_ready _ c.loop-k.invariant.1 c.loop-k-test.true in
+    let f = fits in search rules
+
+pub slice_bounds-refresh_next-end-in-loop-k-2 : goal.slice_bounds-refresh_next-end-in-loop-k-2
+slice_bounds-refresh_next-end-in-loop-k-2 c =
+    let fits : let b = c.loop-k.below in
+    (b.start + (b.vertices + (b.vertices + b.edges)) ≤ 327675)
+    × ((b.start ≤ length c.args.valences.now) × ((b.start * 32 ≤ length c.args.rings.now) × (b.start * 3 ≤ length c.loop-k.positions))) = raised_fits c.requires.stack_ready _ c.loop-k.invariant.1 c.loop-k-test.true in
+    let f = fits in search rules
 
 pub refresh_next-requires : goal.refresh_next-requires
 refresh_next-requires c =

@@ -32,6 +32,16 @@ slice_bounds-first_strange_level-count c =
     let accepted : let a = c.args in AcceptsStack a.count a.levels (lent a.valences.now a.rings.now) a.positions.now = stack_only _ _ _ _ c.requires.positions_value in
     omega (arith, reached_room _ _ _ _ accepted c.loop-k.invariant)
 
+pub slice_bounds-first_strange_level-start : goal.slice_bounds-first_strange_level-start
+slice_bounds-first_strange_level-start c =
+    let accepted : let a = c.args in AcceptsStack a.count a.levels (lent a.valences.now a.rings.now) a.positions.now = stack_only _ _ _ _ c.requires.positions_value in
+    omega (arith, reached_room _ _ _ _ accepted c.loop-k.invariant)
+
+pub slice_bounds-first_strange_level-end : goal.slice_bounds-first_strange_level-end
+slice_bounds-first_strange_level-end c =
+    let accepted : let a = c.args in AcceptsStack a.count a.levels (lent a.valences.now a.rings.now) a.positions.now = stack_only _ _ _ _ c.requires.positions_value in
+    omega (arith, reached_room _ _ _ _ accepted c.loop-k.invariant)
+
 pub overflow_mul-base : goal.overflow_mul-base
 overflow_mul-base c =
     let accepted : let a = c.args in AcceptsStack a.count a.levels (lent a.valences.now a.rings.now) a.positions.now = stack_only _ _ _ _ c.requires.positions_value in
@@ -47,6 +57,16 @@ slice_bounds-first_strange_level-count-in-loop-k c =
     let accepted : let a = c.args in AcceptsStack a.count a.levels (lent a.valences.now a.rings.now) a.positions.now = stack_only _ _ _ _ c.requires.positions_value in
     omega (arith, reached_room _ _ _ _ accepted c.loop-k.invariant)
 
+pub slice_bounds-first_strange_level-start-in-loop-k : goal.slice_bounds-first_strange_level-start-in-loop-k
+slice_bounds-first_strange_level-start-in-loop-k c =
+    let accepted : let a = c.args in AcceptsStack a.count a.levels (lent a.valences.now a.rings.now) a.positions.now = stack_only _ _ _ _ c.requires.positions_value in
+    omega (arith, reached_room _ _ _ _ accepted c.loop-k.invariant)
+
+pub slice_bounds-first_strange_level-end-in-loop-k : goal.slice_bounds-first_strange_level-end-in-loop-k
+slice_bounds-first_strange_level-end-in-loop-k c =
+    let accepted : let a = c.args in AcceptsStack a.count a.levels (lent a.valences.now a.rings.now) a.positions.now = stack_only _ _ _ _ c.requires.positions_value in
+    omega (arith, reached_room _ _ _ _ accepted c.loop-k.invariant)
+
 pub overflow_mul-base-in-loop-k : goal.overflow_mul-base-in-loop-k
 overflow_mul-base-in-loop-k c =
     let accepted : let a = c.args in AcceptsStack a.count a.levels (lent a.valences.now a.rings.now) a.positions.now = stack_only _ _ _ _ c.requires.positions_value in
@@ -59,6 +79,16 @@ offset_bounds-positions-base c =
 
 pub slice_bounds-first_strange_level-count-in-loop-k-2 : goal.slice_bounds-first_strange_level-count-in-loop-k-2
 slice_bounds-first_strange_level-count-in-loop-k-2 c =
+    let accepted : let a = c.args in AcceptsStack a.count a.levels (lent a.valences.now a.rings.now) a.positions.now = stack_only _ _ _ _ c.requires.positions_value in
+    omega (arith, reached_room _ _ _ _ accepted c.loop-k.invariant)
+
+pub slice_bounds-first_strange_level-start-in-loop-k-2 : goal.slice_bounds-first_strange_level-start-in-loop-k-2
+slice_bounds-first_strange_level-start-in-loop-k-2 c =
+    let accepted : let a = c.args in AcceptsStack a.count a.levels (lent a.valences.now a.rings.now) a.positions.now = stack_only _ _ _ _ c.requires.positions_value in
+    omega (arith, reached_room _ _ _ _ accepted c.loop-k.invariant)
+
+pub slice_bounds-first_strange_level-end-in-loop-k-2 : goal.slice_bounds-first_strange_level-end-in-loop-k-2
+slice_bounds-first_strange_level-end-in-loop-k-2 c =
     let accepted : let a = c.args in AcceptsStack a.count a.levels (lent a.valences.now a.rings.now) a.positions.now = stack_only _ _ _ _ c.requires.positions_value in
     omega (arith, reached_room _ _ _ _ accepted c.loop-k.invariant)
 

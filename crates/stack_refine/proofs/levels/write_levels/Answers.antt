@@ -27,6 +27,11 @@ slice_bounds-write_level-count c =
     let bounds : Bounds c.loop-k.below (lent c.loop-k.valences c.loop-k.rings) c.loop-k.positions = running_bounds c.requires c.loop-k.invariant in
     let h = bounds in omega arith
 
+pub slice_bounds-write_level-start : goal.slice_bounds-write_level-start
+slice_bounds-write_level-start c =
+    let bounds : Bounds c.loop-k.below (lent c.loop-k.valences c.loop-k.rings) c.loop-k.positions = running_bounds c.requires c.loop-k.invariant in
+    let h = bounds in omega arith
+
 pub overflow_mul-base : goal.overflow_mul-base
 overflow_mul-base c =
     let bounds : Bounds c.loop-k.below (lent c.loop-k.valences c.loop-k.rings) c.loop-k.positions = running_bounds c.requires c.loop-k.invariant in
@@ -42,6 +47,11 @@ slice_bounds-write_level-count-in-loop-k c =
     let bounds : Bounds c.loop-k.below (lent c.loop-k.valences c.loop-k.rings) c.loop-k.positions = running_bounds c.requires c.loop-k.invariant in
     let h = bounds in omega arith
 
+pub slice_bounds-write_level-start-in-loop-k : goal.slice_bounds-write_level-start-in-loop-k
+slice_bounds-write_level-start-in-loop-k c =
+    let bounds : Bounds c.loop-k.below (lent c.loop-k.valences c.loop-k.rings) c.loop-k.positions = running_bounds c.requires c.loop-k.invariant in
+    let h = bounds in omega arith
+
 pub overflow_mul-base-in-loop-k : goal.overflow_mul-base-in-loop-k
 overflow_mul-base-in-loop-k c =
     let bounds : Bounds c.loop-k.below (lent c.loop-k.valences c.loop-k.rings) c.loop-k.positions = running_bounds c.requires c.loop-k.invariant in
@@ -54,6 +64,11 @@ offset_bounds-positions-base c =
 
 pub slice_bounds-write_level-count-in-loop-k-2 : goal.slice_bounds-write_level-count-in-loop-k-2
 slice_bounds-write_level-count-in-loop-k-2 c =
+    let bounds : Bounds c.loop-k.below (lent c.loop-k.valences c.loop-k.rings) c.loop-k.positions = running_bounds c.requires c.loop-k.invariant in
+    let h = bounds in omega arith
+
+pub slice_bounds-write_level-start-in-loop-k-2 : goal.slice_bounds-write_level-start-in-loop-k-2
+slice_bounds-write_level-start-in-loop-k-2 c =
     let bounds : Bounds c.loop-k.below (lent c.loop-k.valences c.loop-k.rings) c.loop-k.positions = running_bounds c.requires c.loop-k.invariant in
     let h = bounds in omega arith
 
@@ -74,5 +89,5 @@ loop-k-preserved c =
 
 pub returns : goal.returns
 returns c =
-    let t = (end_counts c.requires c.loop-k.invariant (omega arith), end_tables c.requires c.loop-k.invariant (omega arith)) in
-    record { value = t.0; valences_after = t.1.0; rings_after = t.1.1.0; positions_after = t.1.1.1 }
+    let t = end_tables c.requires c.loop-k.invariant (omega arith) in
+    record { value = end_counts c.requires c.loop-k.invariant (omega arith); valences_after = t.0; rings_after = t.1.0; positions_after = t.1.1 }
