@@ -4,5 +4,3 @@ pub mod WalksStop
 pub mod FairPlans
 pub mod Laid
 pub mod PlansMeanMoves
--- what the proofs of functions that are lent a slice of structs share
-pub mod Shared

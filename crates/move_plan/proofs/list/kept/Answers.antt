@@ -1,31 +1,30 @@
 -- `kept` meets its contract. Assumes nothing.
-use mathlib.Core.Path.{◌≡◌, sym, ◌∙◌}
+use Rattle.std.proofs.Common.{◌≡◌, sym, ◌∙◌, rules}
 use Rattle.units.specs.Coordinate.{beyond}
-use Rattle.rings.proofs.Checks.{beyond_read}
 use Rattle.move_plan.proofs.Plans.{kept_x, kept_y, kept_z, kept_self}
 use Rattle.move_plan.proofs.list.kept.Goals as goal
 
 pub returns-then-is_beyond : goal.returns-then-is_beyond
 returns-then-is_beyond c =
-    let first : c.is_beyond.result ≡ beyond c.args.point.x = beyond_read _ _ c.type_inv.point.0.1 c.is_beyond.ensures in
+    let first : c.is_beyond.result ≡ beyond c.args.point.x = search rules in
     kept_x _ (sym c.if-is_beyond.true ∙ first)
 
 pub returns-then-is_beyond-2 : goal.returns-then-is_beyond-2
 returns-then-is_beyond-2 c =
-    let first : c.is_beyond.result ≡ beyond c.args.point.x = beyond_read _ _ c.type_inv.point.0.1 c.is_beyond.ensures in
-    let second : c.is_beyond-2.result ≡ beyond c.args.point.y = beyond_read _ _ c.type_inv.point.1.0.1 c.is_beyond-2.ensures in
+    let first : c.is_beyond.result ≡ beyond c.args.point.x = search rules in
+    let second : c.is_beyond-2.result ≡ beyond c.args.point.y = search rules in
     kept_y _ (sym c.if-is_beyond.false ∙ first) (sym c.if-is_beyond-2.true ∙ second)
 
 pub returns-then-is_beyond-3 : goal.returns-then-is_beyond-3
 returns-then-is_beyond-3 c =
-    let first : c.is_beyond.result ≡ beyond c.args.point.x = beyond_read _ _ c.type_inv.point.0.1 c.is_beyond.ensures in
-    let second : c.is_beyond-2.result ≡ beyond c.args.point.y = beyond_read _ _ c.type_inv.point.1.0.1 c.is_beyond-2.ensures in
-    let third : c.is_beyond-3.result ≡ beyond c.args.point.z = beyond_read _ _ c.type_inv.point.1.1.0.1 c.is_beyond-3.ensures in
+    let first : c.is_beyond.result ≡ beyond c.args.point.x = search rules in
+    let second : c.is_beyond-2.result ≡ beyond c.args.point.y = search rules in
+    let third : c.is_beyond-3.result ≡ beyond c.args.point.z = search rules in
     kept_z _ (sym c.if-is_beyond.false ∙ first) (sym c.if-is_beyond-2.false ∙ second) (sym c.if-is_beyond-3.true ∙ third)
 
 pub returns : goal.returns
 returns c =
-    let first : c.is_beyond.result ≡ beyond c.args.point.x = beyond_read _ _ c.type_inv.point.0.1 c.is_beyond.ensures in
-    let second : c.is_beyond-2.result ≡ beyond c.args.point.y = beyond_read _ _ c.type_inv.point.1.0.1 c.is_beyond-2.ensures in
-    let third : c.is_beyond-3.result ≡ beyond c.args.point.z = beyond_read _ _ c.type_inv.point.1.1.0.1 c.is_beyond-3.ensures in
+    let first : c.is_beyond.result ≡ beyond c.args.point.x = search rules in
+    let second : c.is_beyond-2.result ≡ beyond c.args.point.y = search rules in
+    let third : c.is_beyond-3.result ≡ beyond c.args.point.z = search rules in
     kept_self _ (sym c.if-is_beyond.false ∙ first) (sym c.if-is_beyond-2.false ∙ second) (sym c.if-is_beyond-3.false ∙ third)
