@@ -1,5 +1,5 @@
 -- The move that a record means, by its kind, and what a list of records answers by the kind at the answer's place. Assumes nothing.
-use Prim.Native.Nat.{ℕ, ◌≤◌, ◌<◌, ◌*◌, ◌^◌}
+use Prim.Native.Nat.{ℕ, ◌≤◌, ◌<◌}
 use mathlib.Core.Path.{◌≡◌, refl, sym, ap, ◌∙◌}
 use mathlib.Core.Bool.{Bool, true, false, ◌&&◌}
 use mathlib.Core.Logic.{◌≢◌}
@@ -58,17 +58,13 @@ module _ (kind : ℕ) (p : Paper) where
   unfolding by_kind
   unknown_kind h e = rw (lt-ltb 2 kind h, eq-eqb p.number 3 e)
 
--- 32 bytes for each record before i: within what a slice may take
-pub offset_fits : {n i : ℕ} → n * 32 < 2 ^ 63 → i < n → i * 32 < 2 ^ 64
-offset_fits {n} {i} h l = omega arith
-
 -- what would stand past the end of a list
-pub no_record : MoveRecord
+abbrev pub no_record : MoveRecord
 no_record = record { vertex = 0; kind = 0; x = nan; y = nan; z = nan }
 
 module _ (list : List MoveRecord) (p : Paper) where
   at_place : by_kind (get_or list p.place no_record).kind p ≡ by_kinds list p
-  unfolding by_kinds no_record
+  unfolding by_kinds
   at_place = ap (λ (kind : ℕ). by_kind kind p) (sym (get_or-map (λ (r : MoveRecord). r.kind) list p.place no_record))
 
   -- another answer
@@ -78,8 +74,8 @@ module _ (list : List MoveRecord) (p : Paper) where
 
   -- past the end
   pub no_record_lem : length list ≤ p.place → p ≡ by_kinds list p
-  unfolding no_record
-  no_record_lem h = known_kind 0 p (omega arith) ∙ ap (λ (r : MoveRecord). by_kind r.kind p) (sym (get_or-eq_default list no_record h)) ∙ at_place
+  no_record_lem h =
+      known_kind 0 p (omega arith) ∙ ap (λ (r : MoveRecord). by_kind r.kind p) (sym (get_or-eq_default list no_record h)) ∙ at_place
 
   -- at a record
   pub by_record : (q : Paper) → q ≡ by_kind (get_or list p.place no_record).kind p → q ≡ by_kinds list p
