@@ -56,7 +56,7 @@ refresh_levels-requires c =
       stack_ready = rw c.write_control.ensures.positions_after
           (stack_ready j (planned c.args.plan) low near _ (edges_are j.stack _ c.edge_count-edges.ensures.value));
       map_ready = map_ready j (planned c.args.plan) low near _ _ _ cleared c.write_control.ensures.map_after
-          (omega (arith, c.clear.auto.map, c.write_control.auto.1));
+          (omega (arith, c.clear.auto.map, c.write_control.auto.map));
     }
 
 pub count-requires : goal.count-requires
@@ -73,7 +73,7 @@ count-requires c =
     record {
       total_le_stack_bound = omega arith;
       total_in_bounds = omega
-          (arith, c.clear.auto.map, c.write_control.auto.1, c.refresh_levels.auto.map);
+          (arith, c.clear.auto.map, c.write_control.auto.map, c.refresh_levels.auto.map);
     }
 
 pub returns : goal.returns
@@ -101,5 +101,5 @@ returns c =
       map_after = map_marked j (planned c.args.plan) low near _ _ _ cleared named _ t r
           (record { small = λ w. (c.slice_known-1.given w).fits })
           (record { small = λ w. (c.slice_known-4-1.given w).fits })
-          (omega (arith, c.clear.auto.map, c.write_control.auto.1, c.refresh_levels.auto.map));
+          (omega (arith, c.clear.auto.map, c.write_control.auto.map, c.refresh_levels.auto.map));
     }
