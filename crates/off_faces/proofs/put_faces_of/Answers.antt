@@ -33,8 +33,8 @@ loop-k-preserved c =
     let e = ap (λ j. get_or c.args.ring.now j 0) c.place_before.ensures.value in (
       omega arith,
       elim c.if-a-c.branch [
-        then-a-c d ↦ faced_same d.text-is d.end-is (faced_more w s _ c.place_over-i.ensures.upper_bound c.place_over-i.ensures.last_bound c.place_over-i.ensures.ring_value _ e d.if-a-c.true d.put_face-end.ensures)
-      | else-a-c d ↦ faced_same d.text-is d.end-is (faced_skip w s _ c.place_over-i.ensures.upper_bound c.place_over-i.ensures.last_bound c.place_over-i.ensures.ring_value _ e d.if-a-c.false)
+        | then-a-c d ↦ faced_same d.text-is d.end-is (faced_more w s _ c.place_over-i.ensures.upper_bound c.place_over-i.ensures.last_bound c.place_over-i.ensures.ring_value _ e d.if-a-c.true d.put_face-end.ensures)
+        | else-a-c d ↦ faced_same d.text-is d.end-is (faced_skip w s _ c.place_over-i.ensures.upper_bound c.place_over-i.ensures.last_bound c.place_over-i.ensures.ring_value _ e d.if-a-c.false)
       ],
     )
 

@@ -22,8 +22,8 @@ loop-i-preserved c =
     let inv = c.loop-i.invariant in
     let l = c.loop-i-test.true in
     elim c.if-p-ring.branch [
-      then-p-ring w ↦ (omega arith, (omega arith, w.count-is ∙ ap (λ n. n + 1) inv.1.1 ∙ sym (over_more _ _ _ l w.if-p-ring.true)))
-    | else-p-ring w ↦ (omega arith, (omega arith, w.count-is ∙ inv.1.1 ∙ sym (over_skip _ _ _ l w.if-p-ring.false)))
+      | then-p-ring w ↦ (omega arith, (omega arith, w.count-is ∙ ap (λ n. n + 1) inv.1.1 ∙ sym (over_more _ _ _ l w.if-p-ring.true)))
+      | else-p-ring w ↦ (omega arith, (omega arith, w.count-is ∙ inv.1.1 ∙ sym (over_skip _ _ _ l w.if-p-ring.false)))
     ]
 
 pub returns : goal.returns

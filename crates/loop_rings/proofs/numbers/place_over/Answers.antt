@@ -20,9 +20,9 @@ loop-i-preserved c =
     let u = c.type_inv.ring c.loop-i.i in (
       omega arith,
       elim c.if-last-u.branch [
-        then-last-u+then-u-best w ↦ rw (w.best-is, w.at-is) (least_new inv.1 l w.if-last-u.true w.if-u-best.true)
-      | then-last-u+else-u-best w ↦ rw (w.best-is, w.at-is) (least_high inv.1 l w.if-last-u.true w.if-u-best.false (omega arith))
-      | else-last-u w ↦ rw (w.best-is, w.at-is) (least_low inv.1 l w.if-last-u.false)
+        | then-last-u+then-u-best w ↦ rw (w.best-is, w.at-is) (least_new inv.1 l w.if-last-u.true w.if-u-best.true)
+        | then-last-u+else-u-best w ↦ rw (w.best-is, w.at-is) (least_high inv.1 l w.if-last-u.true w.if-u-best.false (omega arith))
+        | else-last-u w ↦ rw (w.best-is, w.at-is) (least_low inv.1 l w.if-last-u.false)
       ],
     )
 

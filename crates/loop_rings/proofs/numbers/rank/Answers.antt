@@ -22,9 +22,9 @@ loop-i-preserved c =
     let inv = c.loop-i.invariant in
     let l = c.loop-i-test.true in
     elim c.if-p-u.branch [
-      then-p-u+then-u-q w ↦ (omega arith, (omega arith, w.rank-is ∙ ap (λ n. n + 1) inv.1.1 ∙ sym (rank_in _ _ _ _ l w.if-p-u.true w.if-u-q.true)))
-    | then-p-u+else-u-q w ↦ (omega arith, (omega arith, w.rank-is ∙ inv.1.1 ∙ sym (rank_high _ _ _ _ l w.if-p-u.true w.if-u-q.false)))
-    | else-p-u w ↦ (omega arith, (omega arith, w.rank-is ∙ inv.1.1 ∙ sym (rank_low _ _ _ _ l w.if-p-u.false)))
+      | then-p-u+then-u-q w ↦ (omega arith, (omega arith, w.rank-is ∙ ap (λ n. n + 1) inv.1.1 ∙ sym (rank_in _ _ _ _ l w.if-p-u.true w.if-u-q.true)))
+      | then-p-u+else-u-q w ↦ (omega arith, (omega arith, w.rank-is ∙ inv.1.1 ∙ sym (rank_high _ _ _ _ l w.if-p-u.true w.if-u-q.false)))
+      | else-p-u w ↦ (omega arith, (omega arith, w.rank-is ∙ inv.1.1 ∙ sym (rank_low _ _ _ _ l w.if-p-u.false)))
     ]
 
 pub returns : goal.returns

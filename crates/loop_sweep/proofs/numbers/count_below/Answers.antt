@@ -18,8 +18,8 @@ loop-i-preserved c =
     let inv = c.loop-i.invariant in
     let l = c.loop-i-test.true in
     elim c.if-ring-i.branch [
-      then-ring-i w ↦ (omega arith, (omega arith, w.count-is ∙ ap (λ n. n + 1) inv.1.1 ∙ sym (below_more _ _ _ l w.if-ring-i.true)))
-    | else-ring-i w ↦ (omega arith, (omega arith, w.count-is ∙ inv.1.1 ∙ sym (below_skip _ _ _ l w.if-ring-i.false)))
+      | then-ring-i w ↦ (omega arith, (omega arith, w.count-is ∙ ap (λ n. n + 1) inv.1.1 ∙ sym (below_more _ _ _ l w.if-ring-i.true)))
+      | else-ring-i w ↦ (omega arith, (omega arith, w.count-is ∙ inv.1.1 ∙ sym (below_skip _ _ _ l w.if-ring-i.false)))
     ]
 
 pub returns : goal.returns
