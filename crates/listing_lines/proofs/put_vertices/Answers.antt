@@ -1,7 +1,6 @@
 -- `put_vertices` meets its contract. Assumes nothing.
 use native.Mathlib.Omega.{arith}
 use borrow.Author.Rules.{rules}
-use Prim.Native.Nat.{◌-◌}
 use Rattle.listing_lines.specs.Lines.{vertex_line}
 use Rattle.numerals.proofs.Writing.{wrote_none, wrote_length, rows_more, rows_all}
 use Rattle.listing_lines.proofs.put_vertices.Goals as goal

@@ -1,6 +1,5 @@
 -- `map::clear` meets its contract. Assumes nothing.
 use mathlib.Core.Path.{◌≡◌, refl}
-use Prim.Native.Nat.{◌-◌}
 use Rattle.move_map.specs.Map.{word_count}
 use Rattle.move_map.proofs.Sets.{clear_step, emptied_none}
 use borrow.Author.Rules.{rules}

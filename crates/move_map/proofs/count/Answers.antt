@@ -1,6 +1,6 @@
 -- `map::count` meets its contract. Assumes nothing.
 use mathlib.Core.Path.{◌≡◌, refl}
-use Prim.Native.Nat.{◌*◌, ◌-◌}
+use Prim.Native.Nat.{◌*◌}
 use lib.Count.{ones-le}
 use Rattle.move_map.specs.Map.{marked, word_count, members, ones_in}
 use Rattle.move_map.proofs.Sets.{ones_law, ones_step, members_le}

@@ -1,6 +1,5 @@
 -- `digit_count` meets its contract. Assumes nothing.
 use native.Mathlib.Omega.{arith}
-use Prim.Native.Nat.{◌-◌}
 use Rattle.numerals.proofs.Digits.{counted_one, counted_fits, counted_all, counted_more, counted_twenty}
 use Rattle.numerals.proofs.digit_count.Goals as goal
 

@@ -1,5 +1,4 @@
 -- `put_faces` meets its contract. Assumes nothing.
-use Prim.Native.Nat.{◌-◌}
 use native.Mathlib.Omega.{arith}
 use Rattle.rings.specs.Table.{lent}
 use Rattle.rings.proofs.Rows.{fit_row}

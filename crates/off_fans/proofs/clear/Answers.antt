@@ -1,5 +1,4 @@
 -- `clear` meets its contract: the rows passed have no entries. Assumes nothing.
-use Prim.Native.Nat.{◌-◌}
 use native.Mathlib.Omega.{arith}
 use Rattle.off_fans.proofs.Noting.{cleared_none, cleared_more, cleared_end}
 use Rattle.off_fans.proofs.clear.Goals as goal

@@ -1,7 +1,7 @@
 -- `fill_row` meets its contract: the ring is written while it is walked round. Assumes nothing.
 use native.Mathlib.Omega.{arith}
 use lib.ListN.{get_or}
-use Prim.Native.Nat.{ℕ, ◌<◌, ◌-◌}
+use Prim.Native.Nat.{ℕ, ◌<◌}
 use Rattle.mesh.specs.Limits.{place_bound}
 use Rattle.off_filling.proofs.RowWritten.{walked_none, walked_more, walked_all}
 use Rattle.off_filling.proofs.fill_row.Goals as goal

@@ -2,7 +2,7 @@
 use native.Mathlib.Omega.{arith}
 use mathlib.Core.Path.{◌∙◌, sym}
 use lib.ListN.{length, get_or}
-use Prim.Native.Nat.{◌≤◌, ◌<◌, ◌+◌, ◌-◌, ◌*◌}
+use Prim.Native.Nat.{◌≤◌, ◌<◌, ◌+◌, ◌*◌}
 use Rattle.off_gather.proofs.Rows.{row_froms, row_tos}
 use Rattle.off_filling.proofs.RowsFilled.{filled_none, filled_row, filled_all, valence_small, valence_there, row_there}
 use Rattle.off_filling.proofs.fill_rows.Goals as goal

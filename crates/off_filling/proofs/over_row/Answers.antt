@@ -1,6 +1,5 @@
 -- `over_row` meets its contract. Assumes nothing.
 use native.Mathlib.Omega.{arith}
-use Prim.Native.Nat.{◌-◌}
 use borrow.Author.Tests.{lt-ltb, le-ltb}
 use Rattle.mesh.proofs.First.{clear_none, clear_more, first_is, first_end}
 use Rattle.off_filling.proofs.over_row.Goals as goal

@@ -1,5 +1,4 @@
 -- `gather_faces` meets its contract: so far the rows keep what the faces passed give. Assumes nothing.
-use Prim.Native.Nat.{◌-◌}
 use native.Mathlib.Omega.{arith}
 use Rattle.off_gather.proofs.Gathering.{face_line_lem, room_same, same_none, same_more, gathered_end}
 use Rattle.off_gather.proofs.Rows.{gathered_none, same_cleared}

@@ -1,7 +1,6 @@
 -- `stop_row` meets its contract: so far no row stops the block. Assumes nothing.
 use mathlib.Core.Path.{◌≡◌, sym, ◌∙◌}
 use mathlib.Core.Bool.{not}
-use Prim.Native.Nat.{◌-◌}
 use native.Mathlib.Omega.{arith}
 use Rattle.mesh.proofs.First.{clear_none, clear_more, first_is, first_end}
 use Rattle.off_gather.proofs.Rows.{row_froms, row_tos}

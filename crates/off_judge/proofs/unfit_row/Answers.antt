@@ -1,5 +1,4 @@
 -- `unfit_row` meets its contract: so far each row is fit. Assumes nothing.
-use Prim.Native.Nat.{◌-◌}
 use native.Mathlib.Omega.{arith}
 use Rattle.mesh.proofs.First.{clear_none, clear_more, first_is, first_end}
 use Rattle.off_judge.proofs.Faulty.{unfit_low, unfit_high, fit_between}

@@ -1,7 +1,7 @@
 -- `read_number` meets its contract: so far there are only digits, and the value is theirs. Assumes nothing.
 use native.Mathlib.Omega.{arith}
 use lib.ListN.{length}
-use Prim.Native.Nat.{◌+◌, ◌-◌, ◌≤◌}
+use Prim.Native.Nat.{◌+◌, ◌≤◌}
 use Rattle.off_known.proofs.Knowing.{reading_first, reading_one, reading_two, reading_three, reading_bound, reading_next, reading_more, reading_end, reading_last}
 use Rattle.off_known.proofs.read_number.Goals as goal
 

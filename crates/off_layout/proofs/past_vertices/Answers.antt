@@ -1,5 +1,4 @@
 -- `past_vertices` meets its contract: the lines so far are as they should be. Assumes nothing.
-use Prim.Native.Nat.{◌-◌}
 use mathlib.Core.Path.{sym, ◌∙◌}
 use native.Mathlib.Omega.{arith}
 use Rattle.off_layout.proofs.Reaching.{reaches_none, reaches_end, vertices_stop, vertices_more}

@@ -1,6 +1,6 @@
 -- `corners_length` meets its contract. Assumes nothing.
 use native.Mathlib.Omega.{arith}
-use Prim.Native.Nat.{ℕ, ◌-◌, ◌*◌, ◌≤◌}
+use Prim.Native.Nat.{ℕ, ◌*◌, ◌≤◌}
 use mathlib.Core.Path.{ap}
 use lib.ListN.{length, get_or}
 use Rattle.numerals.specs.Numerals.{digits}

@@ -1,6 +1,5 @@
 -- `points_length` meets its contract. Assumes nothing.
 use native.Mathlib.Omega.{arith}
-use Prim.Native.Nat.{◌-◌}
 use Rattle.off_length.specs.Length.{point_length, points_length}
 use Rattle.off_length.proofs.Summed.{summed_none, summed_more, summed_all}
 use borrow.Author.Rules.{rules}

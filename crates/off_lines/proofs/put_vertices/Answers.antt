@@ -1,6 +1,5 @@
 -- `put_vertices` meets its contract. Assumes nothing.
 use native.Mathlib.Omega.{arith}
-use Prim.Native.Nat.{◌-◌}
 use Rattle.off_lines.specs.Written.{line_of}
 use Rattle.off_lines.proofs.Writing.{written_none, written_length, lines_more, lines_all, line_fits}
 use borrow.Author.Rules.{rules}

@@ -1,5 +1,4 @@
 -- `run_at` meets its contract: so far there are only digits, and the value is theirs. Assumes nothing.
-use Prim.Native.Nat.{◌-◌}
 use native.Mathlib.Omega.{arith}
 use Rattle.off_numbers.proofs.Scanning.{scan_none, scan_bound, scan_stop, scan_more, scan_end, digit_range}
 use Rattle.off_numbers.proofs.run_at.Goals as goal

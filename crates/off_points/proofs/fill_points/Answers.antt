@@ -1,5 +1,4 @@
 -- `fill_points` meets its contract: the points below v are written, and its line comes next. Assumes nothing.
-use Prim.Native.Nat.{◌-◌}
 use borrow.Author.Rules.{rules}
 use native.Mathlib.Omega.{arith}
 use Rattle.off_points.proofs.Pointing.{line_of, filled_none, filled_more, filled_all}

@@ -1,5 +1,4 @@
 -- `first_far` meets its contract: no vertex below v lies beyond the range, and its line comes next. Assumes nothing.
-use Prim.Native.Nat.{◌-◌}
 use mathlib.Core.Path.{sym, ◌∙◌}
 use borrow.Author.Rules.{rules}
 use native.Mathlib.Omega.{arith}

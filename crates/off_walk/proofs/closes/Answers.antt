@@ -1,5 +1,4 @@
 -- `closes` meets its contract: so far the walk was not back. Assumes nothing.
-use Prim.Native.Nat.{◌-◌}
 use mathlib.Core.Path.{refl}
 use native.Mathlib.Omega.{arith}
 use Rattle.off_walk.proofs.Following.{walk_none, walk_more, closes_empty, closes_back, closes_never}

@@ -1,6 +1,4 @@
 -- `smallest_of` meets its contract. Assumes nothing.
-use Prim.Native.Nat.{◌-◌}
-use mathlib.Core.Logic.{⊎_elim}
 use native.Mathlib.Omega.{arith}
 use Rattle.off_walk.proofs.Following.{best_none, best_took, best_left, best_end}
 use Rattle.off_walk.proofs.smallest_of.Goals as goal

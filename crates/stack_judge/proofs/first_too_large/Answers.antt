@@ -1,5 +1,4 @@
 -- `first_too_large` meets its contract. Assumes nothing.
-use Prim.Native.Nat.{◌-◌}
 use native.Mathlib.Omega.{arith}
 use Rattle.mesh.proofs.First.{clear_none, clear_more, first_is, first_end}
 use Rattle.stack_judge.proofs.Sizes.{few_closed, sized_none, sized_more, sized_small}

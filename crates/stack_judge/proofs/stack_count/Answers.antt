@@ -1,5 +1,5 @@
 -- `stack_count` meets its contract. Assumes nothing.
-use Prim.Native.Nat.{suc, ◌-◌}
+use Prim.Native.Nat.{suc}
 use mathlib.Core.Path.{◌≡◌, ap, ◌∙◌}
 use native.Mathlib.Omega.{arith}
 use Rattle.steps.specs.Sizes.{closed_sizes}

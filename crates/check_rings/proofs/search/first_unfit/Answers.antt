@@ -1,5 +1,4 @@
 -- `first_unfit` meets its contract. Assumes nothing.
-use Prim.Native.Nat.{◌-◌}
 use mathlib.Core.Path.{sym, ◌∙◌}
 use Rattle.mesh.proofs.First.{clear_none, clear_more, first_is, first_end}
 use borrow.Author.Rules.{rules}

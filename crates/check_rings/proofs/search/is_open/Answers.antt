@@ -1,7 +1,6 @@
 -- `is_open` meets its contract. Assumes nothing.
-use Prim.Native.Nat.{◌-◌}
 use mathlib.Core.Path.{sym, ◌∙◌}
-use Rattle.mesh.specs.Tests.{open_at, open_faced}
+use Rattle.mesh.specs.Tests.{open_faced}
 use Rattle.mesh.proofs.First.{clear_none, clear_more}
 use Rattle.rings.proofs.Rows.{fit_most, row_some_is, row_some_end}
 use native.Mathlib.Omega.{arith}

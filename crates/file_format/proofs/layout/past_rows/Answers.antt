@@ -1,8 +1,8 @@
 -- `past_rows` meets its contract. Assumes nothing.
-use Rattle.std.proofs.Common.{◌≡◌, true, false, ℕ, ◌+◌, ◌<◌, ap}
+use Rattle.std.proofs.Common.{◌≡◌, true, false}
 use Rattle.file_format.specs.Records.{past_at}
 use Rattle.file_format.specs.Judging.{row_ahead}
-use Rattle.file_format.proofs.Judging.{Reaches, reaches_first, reaches_next, reaches_end}
+use Rattle.file_format.proofs.Judging.{reaches_first, reaches_next, reaches_end}
 use Rattle.file_format.proofs.layout.past_rows.Goals as goal
 
 pub loop-records-init : goal.loop-records-init

@@ -2,7 +2,7 @@
 use native.Mathlib.Omega.{arith}
 use lib.ListN.{get_or}
 use Rattle.loop_points.proofs.PointSums.{sum_none, sum_step, sum_small, sum_all, read_x, read_y, read_z, read_in}
-use Prim.Native.Nat.{◌<◌, ◌-◌}
+use Prim.Native.Nat.{◌<◌}
 use Rattle.loop_points.proofs.points.ring_sums.Goals as goal
 
 pub loop-i-init : goal.loop-i-init

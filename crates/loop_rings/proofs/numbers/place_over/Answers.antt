@@ -1,6 +1,4 @@
 -- `place_over` meets its contract. Assumes nothing.
-use Prim.Native.Nat.{◌-◌}
-use mathlib.Core.Logic.{⊎_elim}
 use native.Mathlib.Omega.{arith}
 use borrow.Author.Rules.{rules}
 use Rattle.mesh.proofs.Overs.{least_none, least_low, least_high, least_new, least_end}

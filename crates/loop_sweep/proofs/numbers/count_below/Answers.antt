@@ -1,7 +1,6 @@
 -- `count_below` meets its contract. Assumes nothing.
-use Prim.Native.Nat.{◌+◌, ◌-◌}
+use Prim.Native.Nat.{◌+◌}
 use mathlib.Core.Path.{refl, sym, ap, ◌∙◌}
-use mathlib.Core.Logic.{⊎_elim}
 use lib.Seq.{take_all}
 use Rattle.mesh.specs.Numbering.{below}
 use Rattle.loop_halves.proofs.Steps.{below_more, below_skip}

@@ -1,5 +1,5 @@
 -- `write_old_ring` meets its contract. Assumes nothing.
-use Prim.Native.Nat.{suc, ◌-◌, ◌≤◌}
+use Prim.Native.Nat.{suc, ◌≤◌}
 use mathlib.Core.Path.{refl, sym, ap, ◌∙◌}
 use lib.ListN.{get_or, length-set}
 use native.Mathlib.Omega.{arith}

@@ -1,5 +1,4 @@
 -- `write_sixes` meets its contract. Assumes nothing.
-use Prim.Native.Nat.{◌-◌}
 use mathlib.Core.Path.{◌≡◌, refl, ◌∙◌}
 use lib.ListN.{length-set}
 use Rattle.loop_sweep.proofs.Whole.{same_none, same_more}

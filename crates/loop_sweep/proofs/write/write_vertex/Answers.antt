@@ -9,7 +9,7 @@ use Rattle.mesh.specs.Limits.{most_valence, most_vertices, stack_bound}
 use Rattle.mesh.specs.Numbering.{below}
 use Rattle.loop_step.specs.Loop.{vertex_mask}
 use Rattle.units.specs.declared.Point.{Point}
-use Rattle.rings.specs.Table.{Lent, lent, valence_at, put, ring_of}
+use Rattle.rings.specs.Table.{Lent, valence_at, put, ring_of}
 use Rattle.loop_points.specs.Level.{Levels, AllBelow, start_of, point_by, coordinates}
 use Rattle.loop_points.proofs.NextLevel.{start_most}
 use Rattle.loop_points.proofs.PointSums.{ring_all_below, ready_least}

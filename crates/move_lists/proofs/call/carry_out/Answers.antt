@@ -6,7 +6,6 @@ use Rattle.move_lists.proofs.Judging.{Judged, judged, edges_asked, edges_are, wh
 use Rattle.move_lists.proofs.CarriedOut.{fair_low, fair_near, stack_ready, control_in_map, map_ready, counted, positions_after, map_marked}
 use native.Mathlib.Omega.{arith}
 use lib.ListN.{length}
-use Prim.Native.Nat.{◌-◌}
 use Rattle.rings.specs.Table.{lent}
 use Rattle.move_lists.proofs.call.carry_out.Goals as goal
 

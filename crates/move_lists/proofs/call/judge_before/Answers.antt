@@ -7,7 +7,6 @@ use Rattle.stack_judge.proofs.AcceptedStack.{stack_only}
 use Rattle.stack_strange.specs.Expected.{whole}
 use Rattle.move_lists.proofs.Judging.{edges_asked, edges_are, whole_is, whole_small, before_stack, before_words, before_strange, before_many, before_accepted}
 use native.Mathlib.Omega.{arith}
-use Prim.Native.Nat.{◌-◌}
 use Rattle.rings.specs.Table.{lent}
 use Rattle.move_lists.proofs.call.judge_before.Goals as goal
 

@@ -4,7 +4,6 @@ use Rattle.rings.specs.declared.Verdict.TheVariants.{Accepted}
 use Rattle.move_lists.specs.Apply.{before_moves}
 use Rattle.move_lists.proofs.Settled.{settle_stopped, settle_unplanned, settle_done}
 use lib.ListN.{length}
-use Prim.Native.Nat.{◌-◌}
 use Rattle.rings.specs.Table.{lent}
 use Rattle.move_lists.proofs.call.settle.Goals as goal
 

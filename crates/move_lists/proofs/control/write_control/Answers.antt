@@ -1,7 +1,7 @@
 -- `write_control` meets its contract. The invariant: the first k entries are laid over the positions, and their vertices are marked. Assumes nothing.
 use mathlib.Core.Bool.{Bool}
 use mathlib.Core.List.{List}
-use Prim.Native.Nat.{ℕ, ◌<◌, ◌-◌}
+use Prim.Native.Nat.{ℕ, ◌<◌}
 use lib.IntN.{ℤ}
 use lib.ListN.{get_or, length}
 use Rattle.move_map.specs.Map.{including}

@@ -1,5 +1,4 @@
 -- `refresh_next` meets its contract. Assumes nothing.
-use Prim.Native.Nat.{◌-◌}
 use mathlib.Core.Path.{◌≡◌, ◌∙◌}
 use native.Mathlib.Omega.{arith}
 use Rattle.rings.specs.Table.{lent, rows}

@@ -1,5 +1,4 @@
 -- `mark_next` meets its contract. Assumes nothing.
-use Prim.Native.Nat.{◌-◌}
 use mathlib.Core.Path.{refl, ◌∙◌}
 use native.Mathlib.Omega.{arith}
 use Rattle.move_touched.proofs.Touched.{both_long}

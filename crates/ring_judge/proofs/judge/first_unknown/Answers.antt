@@ -1,5 +1,4 @@
 -- `first_unknown` meets its contract. Assumes nothing.
-use Prim.Native.Nat.{◌-◌}
 use native.Mathlib.Omega.{arith}
 use borrow.Author.Tests.{le-leb, lt-leb}
 use Rattle.mesh.proofs.First.{clear_none, clear_more, first_is, first_end}

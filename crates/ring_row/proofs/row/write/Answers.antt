@@ -1,5 +1,4 @@
 -- `write` meets its contract. Assumes nothing.
-use Prim.Native.Nat.{◌-◌}
 use mathlib.Core.Path.{refl}
 use native.Mathlib.Omega.{arith}
 use Rattle.rings.proofs.Rewrite.{written_start, written_more}

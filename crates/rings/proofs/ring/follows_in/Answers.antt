@@ -1,5 +1,5 @@
 -- `follows_in` meets its contract. Assumes nothing.
-use Prim.Native.Nat.{◌≤◌, ◌<◌, ◌-◌}
+use Prim.Native.Nat.{◌≤◌, ◌<◌}
 use lib.ListN.{length}
 use native.Mathlib.Omega.{arith}
 use Rattle.mesh.proofs.Places.{place_is, place_end, follows_at, follows_absent}

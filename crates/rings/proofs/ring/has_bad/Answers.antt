@@ -1,5 +1,4 @@
 -- `has_bad` meets its contract. Assumes nothing.
-use Prim.Native.Nat.{◌-◌}
 use mathlib.Core.Path.{sym, ◌∙◌}
 use Rattle.mesh.proofs.First.{some_is, some_end}
 use Rattle.rings.proofs.ring.has_bad.Goals as goal

@@ -1,5 +1,4 @@
 -- `seek` meets its contract. Assumes nothing.
-use Prim.Native.Nat.{◌-◌}
 use Rattle.mesh.proofs.Places.{place_is, place_end}
 use borrow.Author.Rules.{rules}
 use Rattle.rings.proofs.ring.seek.Goals as goal

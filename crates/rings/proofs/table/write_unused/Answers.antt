@@ -1,5 +1,4 @@
 -- `write_unused` meets its contract. Assumes nothing.
-use Prim.Native.Nat.{◌-◌}
 use mathlib.Core.Path.{refl, ◌∙◌}
 use lib.ListN.{length-set}
 use Rattle.rings.proofs.Blocks.{unused_none, unused_more}

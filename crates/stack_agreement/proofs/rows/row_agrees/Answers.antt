@@ -1,5 +1,4 @@
 -- `row_agrees` meets its contract. Assumes nothing.
-use Prim.Native.Nat.{◌-◌}
 use native.Mathlib.Omega.{arith}
 use Rattle.stack_agreement.proofs.Telling.{no_tells, walked_none, walked_more, walked_all}
 use Rattle.stack_agreement.proofs.rows.row_agrees.Goals as goal

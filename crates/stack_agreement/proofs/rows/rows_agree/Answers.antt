@@ -1,5 +1,4 @@
 -- `rows_agree` meets its contract. Assumes nothing.
-use Prim.Native.Nat.{◌-◌}
 use native.Mathlib.Omega.{arith}
 use Rattle.loop_points.proofs.Mids.{ready_row}
 use Rattle.stack_agreement.proofs.Telling.{no_tells}

@@ -1,5 +1,4 @@
 -- `has_six_valences` meets its contract. Assumes nothing.
-use Prim.Native.Nat.{◌-◌}
 use native.Mathlib.Omega.{arith}
 use borrow.Author.Tests.{eqb-true}
 use Rattle.stack_agreement.proofs.Telling.{missed_none, missed_one, missed_not}

@@ -1,5 +1,4 @@
 -- `first_strange` meets its contract. Assumes nothing.
-use Prim.Native.Nat.{◌-◌}
 use native.Mathlib.Omega.{arith}
 use Rattle.rings.specs.Table.{lent}
 use Rattle.stack_judge.specs.Accepts.{AcceptsStack}

@@ -1,5 +1,4 @@
 -- `write_levels` meets its contract: the invariant is that levels 0 to k stand in the tables, and `below` is level k. Assumes nothing.
-use Prim.Native.Nat.{◌-◌}
 use native.Mathlib.Omega.{arith}
 use Rattle.rings.specs.Table.{lent}
 use Rattle.stack_judge.proofs.Judged.{counted_edges}

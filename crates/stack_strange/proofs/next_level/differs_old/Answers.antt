@@ -1,5 +1,5 @@
 -- `differs_old` meets its contract. Assumes nothing.
-use Prim.Native.Nat.{◌+◌, ◌-◌, ◌*◌}
+use Prim.Native.Nat.{◌+◌, ◌*◌}
 use native.Mathlib.Omega.{arith}
 use Rattle.stack_strange.proofs.SameLists.{agree_none}
 use Rattle.stack_strange.proofs.NextRows.{old_differs, old_agrees, old_same}

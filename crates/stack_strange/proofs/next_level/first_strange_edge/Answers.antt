@@ -1,5 +1,5 @@
 -- `first_strange_edge` meets its contract. Assumes nothing.
-use Prim.Native.Nat.{suc, ◌-◌}
+use Prim.Native.Nat.{suc}
 use mathlib.Core.Path.{sym, ◌∙◌}
 use native.Mathlib.Omega.{arith}
 use Rattle.mesh.proofs.First.{first_is, first_end}

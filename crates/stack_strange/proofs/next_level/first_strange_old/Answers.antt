@@ -1,5 +1,5 @@
 -- `first_strange_old` meets its contract. Assumes nothing.
-use Prim.Native.Nat.{◌+◌, ◌-◌}
+use Prim.Native.Nat.{◌+◌}
 use mathlib.Core.Path.{sym, ◌∙◌}
 use native.Mathlib.Omega.{arith}
 use Rattle.mesh.proofs.First.{clear_none, clear_more, first_is, first_end}
