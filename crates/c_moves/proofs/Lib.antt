@@ -1,2 +1,3 @@
--- Laws on the records' kinds.
+-- Laws on the records' kinds, and on the walk of their moves.
 pub mod RecordKinds
+pub mod RecordWalks

@@ -1,2 +1,3 @@
 -- Moves as they cross the C interface.
+pub mod Kinds
 pub mod Records

@@ -1,7 +1,7 @@
 -- To be believed.
 -- "Small meshes to hold it to": each line is computed by the definitions. The proof is proofs/Cases.antt.
 -- Assumes nothing.
-use Rattle.std.specs.Prelude.{◌≡◌, true, false, [], ◌∷◌, map, ◌+◌, ◌^◌, eqb, pos, negsuc, length, take, drop, replicate}
+use Rattle.std.specs.Prelude.{◌≡◌, true, false, [], ◌∷◌, map, ◌+◌, ◌^◌, eqb, pos, negsuc, length, take, drop, replicate, Ok, Err}
 use Rattle.std.specs.Float.{fin}
 use Rattle.steps.specs.Round.{rounded}
 use Rattle.steps.specs.Mask.{touched, touched_count}
@@ -11,7 +11,7 @@ use Rattle.millimetres.specs.Millimetres.{mm_of}
 use Rattle.millimetres.specs.Move.{moved_to}
 use Rattle.millimetres.specs.declared.Mm.{Mm}
 use Rattle.millimetres.specs.declared.Change.TheVariants.{Place, Shift}
-use Rattle.millimetres.specs.declared.Moved.TheVariants.{At, OutOfReach}
+use Rattle.millimetres.specs.declared.Unmoved.TheVariants.{OutOfReach}
 use Rattle.rings.specs.Refusal.{accepted, refused}
 use Rattle.rings.specs.Paper.{paper_counted, paper_amount}
 use Rattle.rings.specs.Table.{lent, coordinate_at}
@@ -47,14 +47,14 @@ pub record Cases : Type 0 where
   pub mapped14 : onRefined apply_map octahedron (roomy (roomy corners)) (move0 ∷ []) ≡ 2881473 ∷ []
   pub mapped11 : onRefined apply_map tetrahedron (roomy corners) (move1 ∷ []) ≡ 16370 ∷ []
   -- 6: "Placing 0.1 from anywhere: 102; a shift of 0.1 after it: 204; placing 0.2: 205"
-  pub placed : (p : Mm) → moved_to p (Place tenth tenth tenth) ≡ At (diagonal (pos 102))
-  pub shifted : moved_to (mm_of (diagonal (pos 102))) (Shift tenth tenth tenth) ≡ At (diagonal (pos 204))
-  pub placed_fifth : (p : Mm) → moved_to p (Place fifth fifth fifth) ≡ At (diagonal (pos 205))
+  pub placed : (p : Mm) → moved_to p (Place tenth tenth tenth) ≡ Ok (diagonal (pos 102))
+  pub shifted : moved_to (mm_of (diagonal (pos 102))) (Shift tenth tenth tenth) ≡ Ok (diagonal (pos 204))
+  pub placed_fifth : (p : Mm) → moved_to p (Place fifth fifth fifth) ≡ Ok (diagonal (pos 205))
   -- 7, where 1/2048 and the float after 1024.0 are 1 * 2 ^ -11 and (2 ^ 52 + 1) * 2 ^ -42: "1/2048 mm gives 0" (order 2),
   -- "-1/2048 gives 0; 1024.0 is in, the next float is 14"
   pub small : (p : Mm) → moved_to p (Place (fin false 1 (negsuc 10)) (fin true 1 (negsuc 10)) (fin false 1 (pos 10)))
-      ≡ At (record { x = pos 0; y = pos 0; z = pos 1048576 })
-  pub next_out : (p : Mm) → moved_to p (Place tenth tenth (fin false (2 ^ 52 + 1) (negsuc 41))) ≡ OutOfReach
+      ≡ Ok (record { x = pos 0; y = pos 0; z = pos 1048576 })
+  pub next_out : (p : Mm) → moved_to p (Place tenth tenth (fin false (2 ^ 52 + 1) (negsuc 41))) ≡ Err OutOfReach
   pub out14 : paper_amount (onRefined apply_answer tetrahedron (roomy corners) (record { vertex = 0; change = Place tenth tenth (fin false (2 ^ 52 + 1) (negsuc 41)) } ∷ []))
       ≡ refused 14 0 0
   -- 8: "T with ring 1 as 0 2 3: 6. T with 0 missing from ring 1: valence 2, so 4"

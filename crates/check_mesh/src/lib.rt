@@ -1,21 +1,20 @@
 // The check: reasons 2, 1, 4, 5, 6 and 7, each over all vertices before the next.
 #![tactic(auto)]
 
-ghost use Rattle.std.specs.Prelude.{◌≡◌, false, ◌*◌, ◌/◌, ◌≤◌, length, get_or};
+ghost use Rattle.std.specs.Prelude.{◌≡◌, false, ◌*◌, ◌/◌, ◌≤◌, length, get_or, Ok};
 ghost use Rattle.mesh.specs.Limits.{most_count, valence_bound, edge_bound};
 ghost use Rattle.mesh.specs.Search.{sum};
 ghost use Rattle.rings.specs.Table.{lent};
 ghost use Rattle.rings.specs.Verdict.{refuse_at};
 ghost use Rattle.rings.specs.Check.{bad_count, short_tables, beyond_at, check_verdict, counts_of, check_answer};
 ghost use Rattle.rings.specs.declared.Refusal.TheVariants.{ControlCoordinate};
-ghost use Rattle.rings.specs.declared.Verdict.TheVariants.{Accepted};
 
 use check_rings::search::{first_one_sided, first_open, first_unfit};
 use check_rings::sound::is_sound;
 use mesh::limits::Vertex;
 use positions::first_beyond;
 use rings::table::{is_bad_count, is_short};
-use rings::{Counted, Refusal, Verdict};
+use rings::{Counts, Refusal};
 
 pub mod positions;
 
@@ -26,13 +25,7 @@ fn valence_sum(valences: &[u16], count: usize) -> usize
     ensures value { result ≡ sum (λ v. get_or valences.now v 0) count }
     ensures upper_bound { result ≤ valence_bound * count }
 {
-    let mut sum: usize = 0;
-    let mut v = 0;
-    while v < count {
-        sum += valences[v] as usize;
-        v += 1;
-    }
-    sum
+    valences[..count].iter().map(|n| *n as usize).sum()
 }
 
 // E: half the sum of the valences.
@@ -46,62 +39,72 @@ pub fn edge_count(valences: &[u16], count: usize) -> usize
 }
 
 // V, E and F of rings that are sound.
-pub fn counts(valences: &[u16], count: usize) -> Counted
+pub fn counts(valences: &[u16], count: usize) -> Counts
     requires count_in_bounds { count ≤ length valences.now }
     requires count_le_most_count { count ≤ most_count }
-    ensures { result ≡ counts_of count (sum (λ v. get_or valences.now v 0) count) }
+    ensures { Ok result ≡ counts_of count (sum (λ v. get_or valences.now v 0) count) }
 {
     let e = edge_count(valences, count);
-    Counted::Counts {
+    Counts {
         v: count,
-        e: e,
+        e,
         f: 2 * e / 3,
     }
 }
 
 // Reason 7, and what is judged after it: nothing.
-fn judge_positions(positions: &[i32], count: usize) -> Verdict
+fn judge_positions(positions: &[i32], count: usize) -> Result<(), Refusal>
     requires { count * 3 ≤ length positions.now }
-    ensures { result ≡ refuse_at (beyond_at positions.now) count ControlCoordinate Accepted }
+    ensures { result ≡ refuse_at (beyond_at positions.now) count ControlCoordinate (Ok tt) }
 {
     let far = first_beyond(positions, count);
     if far < count {
-        return Verdict::Refused(Refusal::ControlCoordinate(far));
+        return Err(Refusal::ControlCoordinate(far));
     }
-    Verdict::Accepted
+    Ok(())
 }
 
 // Reasons 4 to 7, each over all vertices before the next.
-fn judge_each(valences: &[u16], rings: &[Vertex], positions: &[i32], count: usize) -> Verdict
+fn judge_each(
+    valences: &[u16],
+    rings: &[Vertex],
+    positions: &[i32],
+    count: usize,
+) -> Result<(), Refusal>
     requires count_value { bad_count count ≡ false }
     requires positions_value { short_tables count (lent valences.now rings.now) positions.now ≡ false }
     ensures { result ≡ check_verdict count (lent valences.now rings.now) positions.now }
 {
     let unfit = first_unfit(valences, rings, count);
     if unfit < count {
-        return Verdict::Refused(Refusal::RingImproper(unfit));
+        return Err(Refusal::RingImproper(unfit));
     }
     let lone = first_one_sided(valences, rings, count);
     if lone < count {
-        return Verdict::Refused(Refusal::NotMutual(lone));
+        return Err(Refusal::NotMutual(lone));
     }
     let open = first_open(valences, rings, count);
     if open < count {
-        return Verdict::Refused(Refusal::NotTriangle(open));
+        return Err(Refusal::NotTriangle(open));
     }
     judge_positions(positions, count)
 }
 
 // The check's verdict: the rings are sound and the coordinates in range, or the first reason against it with its lowest vertex.
 // Rings that the quick pass finds sound are not judged again.
-pub fn judge(valences: &[u16], rings: &[Vertex], positions: &[i32], count: usize) -> Verdict
+pub fn judge(
+    valences: &[u16],
+    rings: &[Vertex],
+    positions: &[i32],
+    count: usize,
+) -> Result<(), Refusal>
     ensures { result ≡ check_verdict count (lent valences.now rings.now) positions.now }
 {
     if is_bad_count(count) {
-        return Verdict::Refused(Refusal::VertexCount);
+        return Err(Refusal::VertexCount);
     }
     if is_short(valences, rings, positions, count) {
-        return Verdict::Refused(Refusal::TableTooShort);
+        return Err(Refusal::TableTooShort);
     }
     if is_sound(valences, rings, count) {
         return judge_positions(positions, count);
@@ -110,11 +113,14 @@ pub fn judge(valences: &[u16], rings: &[Vertex], positions: &[i32], count: usize
 }
 
 // The check, with V, E and F.
-pub fn check(valences: &[u16], rings: &[Vertex], positions: &[i32], count: usize) -> Counted
+pub fn check(
+    valences: &[u16],
+    rings: &[Vertex],
+    positions: &[i32],
+    count: usize,
+) -> Result<Counts, Refusal>
     ensures { result ≡ check_answer count (lent valences.now rings.now) positions.now }
 {
-    match judge(valences, rings, positions, count) {
-        Verdict::Refused(r) => Counted::Refused(r),
-        Verdict::Accepted => counts(valences, count),
-    }
+    judge(valences, rings, positions, count)?;
+    Ok(counts(valences, count))
 }

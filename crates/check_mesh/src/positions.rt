@@ -10,10 +10,7 @@ use mesh::limits::{LEAST_UNITS, MOST_UNITS};
 pub fn is_beyond(c: i32) -> bool
     ensures { result ≡ beyond c }
 {
-    if c < LEAST_UNITS {
-        return true;
-    }
-    MOST_UNITS < c
+    c < LEAST_UNITS || MOST_UNITS < c
 }
 
 // Does a coordinate of v lie beyond the range?
@@ -22,13 +19,7 @@ pub fn has_beyond(positions: &[i32], v: usize) -> bool
     ensures { result ≡ beyond_at positions.now v }
 {
     let a = v * 3;
-    if is_beyond(positions[a]) {
-        return true;
-    }
-    if is_beyond(positions[a + 1]) {
-        return true;
-    }
-    is_beyond(positions[a + 2])
+    is_beyond(positions[a]) || is_beyond(positions[a + 1]) || is_beyond(positions[a + 2])
 }
 
 // Reason 7: the first vertex with a coordinate beyond the range, or the count.
@@ -36,12 +27,7 @@ pub fn first_beyond(positions: &[i32], count: usize) -> usize
     requires { count * 3 ≤ length positions.now }
     ensures { result ≡ first (beyond_at positions.now) count }
 {
-    let mut v = 0;
-    while v < count {
-        if has_beyond(positions, v) {
-            return v;
-        }
-        v += 1;
-    }
-    v
+    (0..count)
+        .find(|v| has_beyond(positions, *v))
+        .unwrap_or(count)
 }

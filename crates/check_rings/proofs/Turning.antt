@@ -1,12 +1,11 @@
 -- Rings that turn round each vertex are sound: one look at each place does for distinct neighbours, neighbours both ways, and triangles.
 -- Assumes nothing.
-use Prim.Native.Nat.{ℕ, zero, suc, ◌+◌, ◌-◌, ◌≤◌, ◌<◌}
+use Prim.Native.Nat.{ℕ, zero, suc, ◌-◌, ◌≤◌, ◌<◌}
 use mathlib.Core.Path.{◌≡◌, refl, sym, ap, subst, ◌∙◌}
 use mathlib.Core.Bool.{Bool, true}
 use mathlib.Core.List.{List}
 use native.Mathlib.Omega.{arith}
 use lib.ListN.{length, get_or}
-use borrow.Author.Count.{below_more}
 use borrow.Author.Tests.{lt-ltb}
 use Rattle.mesh.specs.Ring.{◌∈◌, Distinct, place, place_before, next, prev, Follows, follows}
 use Rattle.mesh.specs.Mesh.{mesh, Sound}
@@ -25,30 +24,28 @@ pub turned_back : (r s : List ℕ) (v y : ℕ) {b : Bool} → r ≡ s → b ≡ 
 turned_back r s v y q e h = follows_true s v y (subst (λ (table : List ℕ). follows table v y ≡ true) q (sym e ∙ h))
 
 module _ (n : ℕ) (ring : ℕ → List ℕ) (v : ℕ) (r : List ℕ) (q : r ≡ ring v) where
-  here : (k before : ℕ) → before ≡ get_or r (place_before (length r) k) 0 → (get_or r k 0 < n) × Follows (ring (get_or r k 0)) v before
-      → (get_or (ring v) k 0 < n) × Follows (ring (get_or (ring v) k 0)) v (get_or (ring v) (place_before (length (ring v)) k) 0)
-  here k before e table =
-      subst (λ (l : List ℕ). (get_or l k 0 < n) × Follows (ring (get_or l k 0)) v (get_or l (place_before (length l) k) 0)) q
-      (subst (λ (b : ℕ). (get_or r k 0 < n) × Follows (ring (get_or r k 0)) v b) e table)
+  -- what is looked at at place k of the list l
+  abbrev Looked : List ℕ → ℕ → Type 0
+  Looked l k = (get_or l k 0 < n) × Follows (ring (get_or l k 0)) v (get_or l (place_before (length l) k) 0)
 
-  pub turns_first : (last : ℕ) → last ≡ get_or r (length r - 1) 0 → (get_or r 0 0 < n) × Follows (ring (get_or r 0 0)) v last → Turns n ring v 1
-  turns_first last e table =
-      let a = here 0 last (e ∙ ap (λ k. get_or r k 0) (before_first (length r) 0 refl)) table in
-      record {
-        known = below_more (λ k. get_or (ring v) k 0 < n) 0 (λ k l. absurd (omega arith)) a.0;
-        back = below_more (λ k. Follows (ring (get_or (ring v) k 0)) v (get_or (ring v) (place_before (length (ring v)) k) 0)) 0 (λ k l. absurd (omega arith)) a.1;
-        once = λ k l p. absurd (omega arith);
-      }
+  pub turns_all : (i : ℕ) → length r ≡ i → (get_or r 0 0 < n) × Follows (ring (get_or r 0 0)) v (get_or r (length r - 1) 0)
+      → ((k : ℕ) → 1 ≤ k → k < length r → (get_or r k 0 ≡ get_or r 0 0 → ⊥) × ((get_or r k 0 < n) × Follows (ring (get_or r k 0)) v (get_or r (k - 1) 0)))
+      → Turns n ring v i
+  turns_all i e first rest = record {
+    known = λ k l. (turned k l).0;
+    back = λ k l. (turned k l).1;
+    once = λ k l m. subst (λ (table : List ℕ). get_or table k 0 ≡ get_or table 0 0 → ⊥) q (rest k m (omega arith)).0;
+  }
+    where
+      looked : (k before : ℕ) → before ≡ place_before (length r) k → (get_or r k 0 < n) × Follows (ring (get_or r k 0)) v (get_or r before 0) → Looked r k
+      looked k before p h = subst (λ (b : ℕ). (get_or r k 0 < n) × Follows (ring (get_or r k 0)) v (get_or r b 0)) p h
 
-  pub turns_more : {i : ℕ} → Turns n ring v i → 1 ≤ i → (get_or r i 0 ≡ get_or r 0 0 → ⊥) → (before : ℕ) → before ≡ get_or r (i - 1) 0 → (get_or r i 0 < n) × Follows (ring (get_or r i 0)) v before
-      → Turns n ring v (i + 1)
-  turns_more {i} s p d before e table =
-      let a = here i before (e ∙ ap (λ k. get_or r k 0) (before_other (length r) i (λ z. omega arith))) table in
-      record {
-        known = below_more (λ k. get_or (ring v) k 0 < n) i s.known a.0;
-        back = below_more (λ k. Follows (ring (get_or (ring v) k 0)) v (get_or (ring v) (place_before (length (ring v)) k) 0)) i s.back a.1;
-        once = below_more (λ k. 0 < k → get_or (ring v) k 0 ≡ get_or (ring v) 0 0 → ⊥) i s.once (λ l. subst (λ (table : List ℕ). get_or table i 0 ≡ get_or table 0 0 → ⊥) q d);
-      }
+      seen : (k : ℕ) → k < length r → Looked r k
+      seen zero l = looked 0 (length r - 1) (before_first (length r) 0 refl) first
+      seen (suc k) l = looked (suc k) (suc k - 1) (before_other (length r) (suc k) (λ z. omega arith)) (rest (suc k) (omega arith) l).1
+
+      turned : (k : ℕ) → k < i → Looked (ring v) k
+      turned k l = subst (λ (table : List ℕ). Looked table k) q (seen k (omega arith))
 
 -- ---- round each vertex
 
@@ -121,9 +118,3 @@ module _ {n : ℕ} {t : Lent} (room : Room n t) (f : FitValences n t.valences) w
 
       s : Sound (mesh n (ring_of t))
       s = turning_sound n (ring_of t) (λ v l. rw (size v l) (f.least v l)) (λ v l. rw (size v l) (table v l)) (λ v l. rw (size v l) (f.most v l))
-
-pub fit_valences_none : {vs : List ℕ} → FitValences 0 vs
-fit_valences_none = record { least = λ v l. absurd (omega arith); most = λ v l. absurd (omega arith) }
-
-pub fit_valences_more : {n : ℕ} {vs : List ℕ} → FitValences n vs → 3 ≤ get_or vs n 0 → get_or vs n 0 ≤ 32 → FitValences (n + 1) vs
-fit_valences_more {n} {vs} f a b = record { least = below_more (λ v. 3 ≤ get_or vs v 0) n f.least a; most = below_more (λ v. get_or vs v 0 ≤ 32) n f.most b }

@@ -16,10 +16,7 @@ fn is_unfit(valences: &[u16], rings: &[Vertex], count: usize, v: usize) -> bool
     requires room { Room count (lent valences.now rings.now) }
     ensures { result ≡ unfit_row count (lent valences.now rings.now) v }
 {
-    if (valences[v] as usize) < LEAST_VALENCE {
-        return true;
-    }
-    is_improper(valences, rings, count, v)
+    (valences[v] as usize) < LEAST_VALENCE || is_improper(valences, rings, count, v)
 }
 
 // Reason 4: the first vertex whose ring is unfit, or the count.
@@ -27,14 +24,9 @@ pub fn first_unfit(valences: &[u16], rings: &[Vertex], count: usize) -> usize
     requires { Room count (lent valences.now rings.now) }
     ensures { result ≡ first (unfit_row count (lent valences.now rings.now)) count }
 {
-    let mut v = 0;
-    while v < count {
-        if is_unfit(valences, rings, count, v) {
-            return v;
-        }
-        v += 1;
-    }
-    v
+    (0..count)
+        .find(|v| is_unfit(valences, rings, count, *v))
+        .unwrap_or(count)
 }
 
 // Does the neighbour at place i of v's ring lack v?
@@ -54,15 +46,7 @@ fn is_one_sided(valences: &[u16], rings: &[Vertex], count: usize, v: usize) -> b
     requires fit { Fit count (lent valences.now rings.now) }
     ensures { result ≡ one_sided (rows count (lent valences.now rings.now)) v }
 {
-    let n = valences[v] as usize;
-    let mut i = 0;
-    while i < n {
-        if lacks_at(valences, rings, count, v, i) {
-            return true;
-        }
-        i += 1;
-    }
-    false
+    (0..valences[v] as usize).any(|i| lacks_at(valences, rings, count, v, i))
 }
 
 // Reason 5: the first vertex that some neighbour lacks, or the count.
@@ -70,14 +54,9 @@ pub fn first_one_sided(valences: &[u16], rings: &[Vertex], count: usize) -> usiz
     requires { Fit count (lent valences.now rings.now) }
     ensures { result ≡ first (one_sided (rows count (lent valences.now rings.now))) count }
 {
-    let mut v = 0;
-    while v < count {
-        if is_one_sided(valences, rings, count, v) {
-            return v;
-        }
-        v += 1;
-    }
-    v
+    (0..count)
+        .find(|v| is_one_sided(valences, rings, count, *v))
+        .unwrap_or(count)
 }
 
 // With u at place i of v's ring and w after it: does u not follow v in w, or v not follow w in u?
@@ -91,10 +70,7 @@ fn open_at(valences: &[u16], rings: &[Vertex], count: usize, v: usize, i: usize)
     let j = place_after(n, i);
     let u = neighbour_at(valences, rings, count, v, i);
     let w = neighbour_at(valences, rings, count, v, j);
-    if follows_in(ring_of(valences, rings, w), v, u) {
-        return !follows_in(ring_of(valences, rings, u), w, v);
-    }
-    true
+    !follows_in(ring_of(valences, rings, w), v, u) || !follows_in(ring_of(valences, rings, u), w, v)
 }
 
 // Is some face at v no triangle?
@@ -103,15 +79,7 @@ fn is_open(valences: &[u16], rings: &[Vertex], count: usize, v: usize) -> bool
     requires fit { Fit count (lent valences.now rings.now) }
     ensures { result ≡ open_faced (rows count (lent valences.now rings.now)) v }
 {
-    let n = valences[v] as usize;
-    let mut i = 0;
-    while i < n {
-        if open_at(valences, rings, count, v, i) {
-            return true;
-        }
-        i += 1;
-    }
-    false
+    (0..valences[v] as usize).any(|i| open_at(valences, rings, count, v, i))
 }
 
 // Reason 6: the first vertex with a face that is no triangle, or the count.
@@ -119,12 +87,7 @@ pub fn first_open(valences: &[u16], rings: &[Vertex], count: usize) -> usize
     requires { Fit count (lent valences.now rings.now) }
     ensures { result ≡ first (open_faced (rows count (lent valences.now rings.now))) count }
 {
-    let mut v = 0;
-    while v < count {
-        if is_open(valences, rings, count, v) {
-            return v;
-        }
-        v += 1;
-    }
-    v
+    (0..count)
+        .find(|v| is_open(valences, rings, count, *v))
+        .unwrap_or(count)
 }

@@ -15,18 +15,7 @@ fn are_valences_fit(valences: &[u16], count: usize) -> bool
     requires { count ≤ length valences.now }
     ensures { result ≡ true → FitValences count valences.now }
 {
-    let mut v = 0;
-    while v < count {
-        let n = valences[v] as usize;
-        if n < LEAST_VALENCE {
-            return false;
-        }
-        if MOST_VALENCE < n {
-            return false;
-        }
-        v += 1;
-    }
-    true
+    valences[..count].iter().all(|n| LEAST_VALENCE <= *n as usize && *n as usize <= MOST_VALENCE)
 }
 
 // Is u a vertex that has v in its ring, with `before` after it?
@@ -42,10 +31,7 @@ fn turns_back(
     requires fit_valences { FitValences count valences.now }
     ensures { result ≡ true → (u < count) × Follows (ring_of (lent valences.now rings.now) u) v before }
 {
-    if count <= u {
-        return false;
-    }
-    follows_in(ring_of(valences, rings, u), v, before)
+    u < count && follows_in(ring_of(valences, rings, u), v, before)
 }
 
 // Does every neighbour of v have v, with the neighbour before it after v; and does the first neighbour stand once?
@@ -58,23 +44,11 @@ fn turns_round(valences: &[u16], rings: &[Vertex], count: usize, v: usize) -> bo
     let ring = ring_of(valences, rings, v);
     let n = ring.len();
     let first = ring[0] as usize;
-    if !turns_back(valences, rings, count, v, first, ring[n - 1] as usize) {
-        return false;
-    }
-    let mut before = first;
-    let mut i = 1;
-    while i < n {
-        let u = ring[i] as usize;
-        if u == first {
-            return false;
-        }
-        if !turns_back(valences, rings, count, v, u, before) {
-            return false;
-        }
-        before = u;
-        i += 1;
-    }
-    true
+    turns_back(valences, rings, count, v, first, ring[n - 1] as usize)
+        && (1..n).all(|i| {
+            let u = ring[i] as usize;
+            u != first && turns_back(valences, rings, count, v, u, ring[i - 1] as usize)
+        })
 }
 
 // Reasons 4, 5 and 6 in one quick pass: true only where none of them holds at any vertex.
@@ -82,15 +56,5 @@ pub fn is_sound(valences: &[u16], rings: &[Vertex], count: usize) -> bool
     requires { Room count (lent valences.now rings.now) }
     ensures { result ≡ true → Fit count (lent valences.now rings.now) × Sound (rows count (lent valences.now rings.now)) }
 {
-    if !are_valences_fit(valences, count) {
-        return false;
-    }
-    let mut v = 0;
-    while v < count {
-        if !turns_round(valences, rings, count, v) {
-            return false;
-        }
-        v += 1;
-    }
-    true
+    are_valences_fit(valences, count) && (0..count).all(|v| turns_round(valences, rings, count, v))
 }

@@ -5,13 +5,14 @@ use mathlib.Core.List.{List, [], ◌∷◌, ◌++◌, append_assoc, append-nil}
 use native.Mathlib.Nat.{add-zero, le_antisymm}
 use native.Mathlib.Numerals.{add-one}
 use native.Mathlib.Omega.{arith}
+use borrow.Rule.Slice.PartMut.{put_mid}
 use lib.ListN.{length, take, drop, set, length-append, length-take}
 use lib.Seq.{take_at, drop_at, drop-drop}
 use Rattle.rings.specs.Table.{put, gather}
 use Rattle.rings.proofs.Tables.{put_nothing, length_put, put_more, length_gather}
 use Rattle.rings.proofs.Blocks as B
 use Rattle.file_format.specs.Blocks.{Put, gather_from}
-use Rattle.file_format.proofs.Gathered.{gather_add, from_add, from_start}
+use Rattle.file_format.proofs.Gathered.{gather_add, from_add, from_start, length_from}
 
 module _ {A : Type 0} where
   -- nothing, and one element
@@ -20,6 +21,13 @@ module _ {A : Type 0} where
 
   pub put_one : {l : List A} {i : ℕ} {a : A} → i < length l → Put l i (a ∷ []) (set l i a)
   put_one {l} {i} {a} h = record { fits = omega arith; is = B.put_one l i a h }
+
+  -- a block that is copied over a part
+  pub put_copied : {l : List A} {i e : ℕ} (block part : List A) → part ≡ block → e ≡ i + length block → e ≤ length l → Put l i block (put_mid i (e - i) l part)
+  unfolding put
+  put_copied {l} {i} {e} block part p q h =
+      let k : i + (e - i) ≡ i + length block = omega arith in
+      record { fits = omega arith; is = ap₂ (λ (x y : List A). take i l ++ (x ++ y)) p (drop-drop (e - i) i l ∙ ap (λ (j : ℕ). drop j l) k) }
 
   pub put_length : {l m : List A} {i : ℕ} {a : List A} → Put l i a m → length m ≡ length l
   put_length {l} {m} {i} {a} p = ap length p.is ∙ length_put l i a p.fits
@@ -125,6 +133,17 @@ module _ {A : Type 0} where
 
   -- at least four rows of one length, by fours: the first, whole ones behind it, and the last, which may overlap them
   module _ (f : ℕ → List A) (w : ℕ) (wide : (i : ℕ) → length (f i) ≡ w) where
+    -- one turn more of a loop that writes whole fours behind the first four, and its last turn
+    pub fours_next : {l m n : List A} {i k : ℕ} (j : ℕ) → 4 ≤ j → Put l i (gather_from f 4 (j - 4)) m → Put m k (gather_from f j 4) n → k ≡ i + (j - 4) * w → Put l i (gather_from f 4 (j + 4 - 4)) n
+    fours_next {l} {m} {n} {i} {k} j h p q e =
+        let here : j ≡ 4 + (j - 4) = omega arith in
+        let more : j - 4 + 4 ≡ j + 4 - 4 = omega arith in
+        put_is (ap (gather_from f 4) more)
+        (from_next f 4 (j - 4) 4 p (subst (λ (x : ℕ). Put m k (gather_from f x 4) n) here q) (e ∙ ap (λ (x : ℕ). i + x) (sym (length_from f w wide 4 (j - 4)))))
+
+    pub fours_last : {l m n : List A} {i k : ℕ} (j c : ℕ) → 4 ≤ j → Put l i (gather_from f 4 (j - 4)) m → Put m k (gather_from f j 4) n → k ≡ i + (j - 4) * w → j + 4 - 4 ≡ c → Put l i (gather_from f 4 c) n
+    fours_last j c h p q e r = put_is (ap (gather_from f 4) r) (fours_next j h p q e)
+
     pub by_fours : {l m₁ m₂ m₃ : List A} {i k₁ k₂ k₃ : ℕ} (n : ℕ) → 4 ≤ n → Put l k₁ (gather_from f 0 4) m₁ → k₁ ≡ i → Put m₁ k₂ (gather_from f 4 ((n - 4) / 4 * 4)) m₂ → k₂ ≡ i + 4 * w
         → Put m₂ k₃ (gather_from f (n - 4) 4) m₃ → k₃ ≡ i + (n - 4) * w → Put l i (gather f n) m₃
     by_fours {l} {m₁} {m₂} {m₃} {i} {k₁} {k₂} {k₃} n h p a q b r c =

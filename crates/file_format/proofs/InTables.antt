@@ -9,17 +9,16 @@ use lib.Seq.{take_at}
 use Rattle.mesh.specs.Limits.{null_vertex}
 use Rattle.rings.specs.Table.{Lent, lent, put, gather, ring_of, padded, valence_rows, ring_rows, coordinate_at, point_rows}
 use Rattle.rings.specs.Verdict.{with_amount}
-use Rattle.rings.specs.declared.Verdict.{Verdict}
-use Rattle.rings.specs.declared.Verdict.TheVariants.{Accepted, Refused}
-use Rattle.rings.specs.declared.Amount.TheVariants.{Of}
 use Rattle.rings.proofs.Tables.{length_gather, gather_at, length_padded}
 use Rattle.file_format.proofs.Gathered.{gather_drop, gather_one, length_rows_below, put_front}
+use Rattle.rings.specs.Refusal.{Verdict}
+use Rattle.std.specs.Prelude.{Ok, Err}
 
 -- an answer with a number is an accepted verdict's
-pub answered : (v : Verdict) (k n : ℕ) → with_amount v k ≡ Of n → (v ≡ Accepted) × (k ≡ n)
+pub answered : (v : Verdict) (k n : ℕ) → with_amount v k ≡ Ok n → (v ≡ (Ok tt)) × (k ≡ n)
 unfolding with_amount
-answered Accepted k n e = (refl, cc)
-answered (Refused r) k n e = absurd (let z : ◌≡◌ {A = ℕ} 0 1 = cc in omega arith)
+answered (Ok u) k n e = (refl, cc)
+answered (Err r) k n e = absurd (let z : ◌≡◌ {A = ℕ} 0 1 = cc in omega arith)
 
 -- the front of a table
 front_at : {A : Type 0} (y b : List A) (i : ℕ) (d : A) → i < length b → get_or (put y 0 b) i d ≡ get_or b i d

@@ -1,25 +1,24 @@
 -- What judging a layout shows, record by record and as a whole. Assumes nothing.
 use Prim.Native.Nat.{ℕ, ◌+◌, ◌-◌, ◌*◌, ◌≤◌, ◌<◌}
-use mathlib.Core.Path.{◌≡◌, refl, sym, ap, ◌∙◌}
-use mathlib.Core.Bool.{Bool, true, false, not, ◌&&◌}
+use mathlib.Core.Path.{◌≡◌, refl, sym, ap, subst, ◌∙◌}
+use mathlib.Core.Bool.{Bool, true, false, not}
 use mathlib.Core.List.{List}
 use native.Mathlib.Numerals.{add-one}
 use native.Mathlib.Omega.{arith}
-use borrow.Author.Tests.{lt-ltb, le-ltb, leb-true, ltb-true, ltb-false, not-false}
+use borrow.Author.Tests.{lt-ltb, le-ltb, leb-true, ltb-false, not-false}
 use lib.Dec.{ltb, leb}
 use lib.ListN.{length}
-use Rattle.mesh.specs.Search.{first}
 use Rattle.mesh.proofs.First.{Clear, clear_none, clear_more, first_is, first_end, first_le, by_cases}
 use Rattle.rings.specs.Verdict.{refuse_if, refuse_at}
 use Rattle.rings.specs.declared.Refusal.TheVariants.{FileLayout}
-use Rattle.rings.specs.declared.Verdict.{Verdict}
-use Rattle.rings.specs.declared.Verdict.TheVariants.{Accepted, Refused}
 use Rattle.rings.proofs.Verdicts.{if_hit, if_pass, at_hit, at_pass, if_accepted, at_accepted}
 use Rattle.file_format.specs.Bytes.{number_at, length_at, kind_at, after_at, whole_at}
 use Rattle.file_format.specs.Records.{past_at}
 use Rattle.file_format.specs.Layout.{file_count, row_at, file_valence, record_at, is_first, is_row, is_last, file_verdict}
-use Rattle.file_format.specs.Judging.{no_row, row_ahead, Passed, Rows}
+use Rattle.file_format.specs.Judging.{no_row, Passed, Rows}
 use Rattle.file_format.proofs.Finding.{and_both, past_whole, record_whole, record_kind, record_length, record_after, record_fits}
+use Rattle.rings.specs.Refusal.{Verdict}
+use Rattle.std.specs.Prelude.{Ok, Err}
 
 not_of : {b t : Bool} → b ≡ t → (not b) ≡ (not t)
 not_of e = ap not e
@@ -85,55 +84,49 @@ rows_step s v = rw add-one
 pub reached_next : (s : List ℕ) (v at next : ℕ) → at ≡ row_at s v → next ≡ after_at s at → next ≡ row_at s (v + 1)
 reached_next s v at next e p = p ∙ ap (after_at s) e ∙ sym (rows_step s v)
 
-pub ahead_row : (s : List ℕ) (at v n : ℕ) {r : Bool} → v < n → r ≡ is_row s at → r ≡ row_ahead s at v n
-ahead_row s at v n h e = rw (lt-ltb v n h) e
-
-pub ahead_none : (s : List ℕ) (at v n : ℕ) → n ≤ v → false ≡ row_ahead s at v n
-ahead_none s at v n h = rw (le-ltb v n h)
-
--- all before row v of n are rows, and it begins at this place
-pub record Reaches (s : List ℕ) (n v at : ℕ) : Type 0 where
-  pub most : v ≤ n
+-- all before row v are rows, and it begins at this place
+pub record Reaches (s : List ℕ) (v at : ℕ) : Type 0 where
   pub begins : at ≡ row_at s v
   pub within : at ≤ length s
   pub rows : Clear (no_row s) v
 
 -- behind the first record
-pub reaches_first : (s : List ℕ) (n at : ℕ) → is_first s ≡ true → at ≡ past_at s 0 → Reaches s n 0 at
-reaches_first s n at f e =
+pub reaches_first : (s : List ℕ) (at : ℕ) → is_first s ≡ true → at ≡ past_at s 0 → Reaches s 0 at
+reaches_first s at f e =
     let b : at ≡ after_at s 0 = e ∙ first_past s f in
-    record { most = omega arith; begins = b ∙ sym (rows_start s); within = omega (arith, b, first_after s f, first_fits s f); rows = clear_none }
+    record { begins = b ∙ sym (rows_start s); within = omega (arith, b, first_after s f, first_fits s f); rows = clear_none }
+
+-- what stands here, of row v
+row_here : (s : List ℕ) (v at : ℕ) {b : Bool} → Reaches s v at → is_row s at ≡ b → no_row s v ≡ not b
+row_here s v at l t = ap (λ (k : ℕ). not (is_row s k)) (sym l.begins) ∙ ap not t
 
 -- behind a row
-pub reaches_next : (s : List ℕ) (n v at next : ℕ) → Reaches s n v at → row_ahead s at v n ≡ true → next ≡ past_at s at → (v < n) × Reaches s n (v + 1) next
-reaches_next s n v at next l t e =
-    let (below, good) = and_both (ltb v n) (is_row s at) t in
-    let less : v < n = ltb-true v n below in
-    let row = row_is s at good in
-    let b : next ≡ after_at s at = e ∙ past_whole s at row.whole in (
-      less,
-      record {
-        most = omega arith;
-        begins = reached_next s v at next l.begins b;
-        within = omega (arith, b, row.next, row.fits);
-        rows = clear_more l.rows (ap (λ (k : ℕ). not (is_row s k)) (sym l.begins) ∙ ap not good);
-      },
-    )
+pub reaches_next : (s : List ℕ) (v at next : ℕ) → Reaches s v at → is_row s at ≡ true → next ≡ past_at s at → Reaches s (v + 1) next
+reaches_next s v at next l t e =
+    let row = row_is s at t in
+    let b : next ≡ after_at s at = e ∙ past_whole s at row.whole in
+    record {
+      begins = reached_next s v at next l.begins b;
+      within = omega (arith, b, row.next, row.fits);
+      rows = clear_more l.rows (row_here s v at l t);
+    }
 
--- where no row is ahead
-pub reaches_end : (s : List ℕ) (n v at : ℕ) → Reaches s n v at → row_ahead s at v n ≡ false → Passed s n v at
-reaches_end s n v at l t = record { first = by (ltb v n) refl t; begins = l.begins; within = l.within }
-  where
-    by : (b : Bool) → ltb v n ≡ b → (b && is_row s at) ≡ false → v ≡ first (no_row s) n
-    by true e h = first_is l.rows (ltb-true v n e) (ap (λ (k : ℕ). not (is_row s k)) (sym l.begins) ∙ ap not h)
-    by false e h = first_end l.rows l.most (ltb-false v n e)
+-- where there is no row
+pub reaches_fault : (s : List ℕ) (n v at : ℕ) → Reaches s v at → v < n → is_row s at ≡ false → Passed s n v at
+reaches_fault s n v at l h t = record { first = first_is l.rows h (row_here s v at l t); begins = l.begins; within = l.within }
+
+-- behind the last row
+pub reaches_end : (s : List ℕ) (n v at : ℕ) → Reaches s v at → v ≡ n → Passed s n n at
+reaches_end s n v at l e =
+    let h : Reaches s n at = subst (λ (k : ℕ). Reaches s k at) e l in
+    record { first = first_end h.rows (omega arith) (omega arith); begins = h.begins; within = h.within }
 
 -- ---- the whole layout
 
 module _ (s : List ℕ) where
   -- what is left of the verdict before each stage
   abbrev pub tail : ℕ → Verdict
-  tail at = refuse_if (ltb (at + 6) (length s)) (FileLayout (at + 6)) Accepted
+  tail at = refuse_if (ltb (at + 6) (length s)) (FileLayout (at + 6)) (Ok tt)
 
   abbrev pub last : ℕ → Verdict
   last at = refuse_if (not (is_last s at)) (FileLayout at) (tail at)
@@ -142,7 +135,7 @@ module _ (s : List ℕ) where
   all n = refuse_at (no_row s) n (λ v. FileLayout (row_at s v)) (last (row_at s n))
 
   module _ {r : Bool} (p : r ≡ record_at s 0 1 2) where
-    pub judged_first : (not r) ≡ true → Refused (FileLayout 0) ≡ file_verdict s
+    pub judged_first : (not r) ≡ true → Err (FileLayout 0) ≡ file_verdict s
     unfolding file_verdict is_first
     judged_first t = if_hit _ _ _ _ (not_of p) t
 
@@ -155,8 +148,8 @@ module _ (s : List ℕ) where
     unfolding file_verdict file_count
     past_first = ap all c ∙ sym (if_pass (not (is_first s)) (FileLayout 0) (all (number_at s 6 2)) (not (is_first s)) refl (not_of f))
 
-    pub judged_row : row < n → Refused (FileLayout at) ≡ file_verdict s
-    judged_row l = ap (λ (k : ℕ). Refused (FileLayout k)) p.begins ∙ at_hit (no_row s) n (λ v. FileLayout (row_at s v)) (last (row_at s n)) row p.first l ∙ past_first
+    pub judged_row : row < n → Err (FileLayout at) ≡ file_verdict s
+    judged_row l = ap (λ (k : ℕ). Err (FileLayout k)) p.begins ∙ at_hit (no_row s) n (λ v. FileLayout (row_at s v)) (last (row_at s n)) row p.first l ∙ past_first
 
     module _ (l : n ≤ row) where
       past_rows : last at ≡ file_verdict s
@@ -165,7 +158,7 @@ module _ (s : List ℕ) where
           ap last (p.begins ∙ ap (row_at s) e) ∙ sym (at_pass (no_row s) n (λ v. FileLayout (row_at s v)) (last (row_at s n)) row p.first l) ∙ past_first
 
       module _ {r : Bool} (q : r ≡ record_at s at 3 0) where
-        pub judged_last : (not r) ≡ true → Refused (FileLayout at) ≡ file_verdict s
+        pub judged_last : (not r) ≡ true → Err (FileLayout at) ≡ file_verdict s
         unfolding is_last
         judged_last t = if_hit (not (is_last s at)) (FileLayout at) (tail at) (not r) (not_of q) t ∙ past_rows
 
@@ -177,11 +170,11 @@ module _ (s : List ℕ) where
           pub last_fits : at + 6 ≤ length s
           last_fits = let h = record_fits s at 3 0 (sym q ∙ not-false r t) in omega arith
 
-          pub judged_tail : at + 6 < length s → Refused (FileLayout (at + 6)) ≡ file_verdict s
-          judged_tail h = if_hit (ltb (at + 6) (length s)) (FileLayout (at + 6)) Accepted (ltb (at + 6) (length s)) refl (lt-ltb (at + 6) (length s) h) ∙ past_last
+          pub judged_tail : at + 6 < length s → Err (FileLayout (at + 6)) ≡ file_verdict s
+          judged_tail h = if_hit (ltb (at + 6) (length s)) (FileLayout (at + 6)) (Ok tt) (ltb (at + 6) (length s)) refl (lt-ltb (at + 6) (length s) h) ∙ past_last
 
-          pub judged_good : length s ≤ at + 6 → Accepted ≡ file_verdict s
-          judged_good h = sym (if_pass (ltb (at + 6) (length s)) (FileLayout (at + 6)) Accepted (ltb (at + 6) (length s)) refl (le-ltb (at + 6) (length s) h)) ∙ past_last
+          pub judged_good : length s ≤ at + 6 → (Ok tt) ≡ file_verdict s
+          judged_good h = sym (if_pass (ltb (at + 6) (length s)) (FileLayout (at + 6)) (Ok tt) (ltb (at + 6) (length s)) refl (le-ltb (at + 6) (length s) h)) ∙ past_last
 
 -- ---- an accepted layout
 
@@ -194,7 +187,7 @@ last_room : (s : List ℕ) (at : ℕ) → is_last s at ≡ true → at + 6 ≤ l
 unfolding is_last
 last_room s at h = let f = record_fits s at 3 0 h in omega arith
 
-pub good : (s : List ℕ) → file_verdict s ≡ Accepted → Good s
+pub good : (s : List ℕ) → file_verdict s ≡ (Ok tt) → Good s
 unfolding file_verdict
 good s e =
     let n = file_count s in
@@ -202,7 +195,7 @@ good s e =
     let a = if_accepted (not (is_first s)) (FileLayout 0) (all s n) e in
     let b = at_accepted (no_row s) n (λ v. FileLayout (row_at s v)) (last s at) a.1 in
     let c = if_accepted (not (is_last s at)) (FileLayout at) (tail s at) b.1 in
-    let d = if_accepted (ltb (at + 6) (length s)) (FileLayout (at + 6)) Accepted c.1 in
+    let d = if_accepted (ltb (at + 6) (length s)) (FileLayout (at + 6)) (Ok tt) c.1 in
     let l : is_last s at ≡ true = not-false (is_last s at) c.0 in
     record {
       rows = record { first = not-false (is_first s) a.0; row = λ v h. not-false (is_row s (row_at s v)) (b.0.below v h) };

@@ -1,7 +1,7 @@
 -- For inside.
 -- How far the rows of a file are as expected.
 -- Assumes nothing.
-use Rattle.std.specs.Prelude.{◌≡◌, Bool, true, not, ◌&&◌, List, ℕ, ◌+◌, ◌*◌, ◌≤◌, ◌<◌, ltb, length}
+use Rattle.std.specs.Prelude.{◌≡◌, Bool, true, not, List, ℕ, ◌+◌, ◌*◌, ◌≤◌, ◌<◌, length}
 use Rattle.mesh.specs.Limits.{most_valence}
 use Rattle.mesh.specs.Search.{first}
 use Rattle.file_format.specs.Layout.{row_at, file_valence, is_first, is_row}
@@ -9,10 +9,6 @@ use Rattle.file_format.specs.Layout.{row_at, file_valence, is_first, is_row}
 -- what stands where row v is expected is no row
 abbrev pub no_row : List ℕ → ℕ → Bool
 no_row s v = not (is_row s (row_at s v))
-
--- v is one of n rows, and a row begins at this place
-abbrev pub row_ahead : List ℕ → ℕ → ℕ → ℕ → Bool
-row_ahead s at v n = ltb v n && is_row s at
 
 -- of n records, this is the first that is no row, or n where each is one, and it begins at this place
 pub record Passed (s : List ℕ) (n row at : ℕ) : Type 0 where

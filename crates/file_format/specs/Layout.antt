@@ -1,14 +1,13 @@
 -- To be believed.
 -- The layout of a file (document 01, "Mesh file"): one record with V, V rows in vertex order, one last record, and nothing more. Reason 17 stands at the first record that is not as expected.
 -- Assumes nothing.
-use Rattle.std.specs.Prelude.{Bool, not, ◌&&◌, List, [], ◌∷◌, ℕ, zero, suc, ◌+◌, ◌*◌, leb, ltb, eqb, ℤ, length}
+use Rattle.std.specs.Prelude.{Bool, not, ◌&&◌, List, [], ◌∷◌, ℕ, zero, suc, ◌+◌, ◌*◌, leb, ltb, eqb, ℤ, length, Ok}
 use Rattle.mesh.specs.Limits.{most_valence}
 use Rattle.rings.specs.Table.{gather}
 use Rattle.rings.specs.Verdict.{refuse_if, refuse_at}
 use Rattle.rings.specs.declared.Refusal.TheVariants.{FileLayout}
-use Rattle.rings.specs.declared.Verdict.{Verdict}
-use Rattle.rings.specs.declared.Verdict.TheVariants.{Accepted}
 use Rattle.file_format.specs.Bytes.{number_at, length_at, kind_at, after_at, whole_at, coordinate_of}
+use Rattle.rings.specs.Refusal.{Verdict}
 
 module _ (s : List ℕ) where
   -- V, in the first record
@@ -59,4 +58,4 @@ module _ (s : List ℕ) where
       (refuse_at (λ v. not (is_row (row_at v))) file_count (λ v. FileLayout (row_at v))
       (refuse_if (not (is_last (row_at file_count))) (FileLayout (row_at file_count))
       (refuse_if (ltb (row_at file_count + 6) (length s)) (FileLayout (row_at file_count + 6))
-      Accepted)))
+      (Ok tt))))

@@ -3,22 +3,13 @@ ghost use Rattle.std.specs.Prelude.{◌≡◌, ◌+◌, ◌<◌, ◌≤◌, leng
 ghost use Rattle.file_format.specs.Bytes.{bytes_of, bits_of, coordinate_of, number_at};
 ghost use Rattle.file_format.specs.Blocks.{Put};
 
-// The byte at a place.
-fn byte_at(bytes: &[u8], at: usize) -> usize
-    requires { at < length bytes.now }
-    ensures value { result ≡ get_or bytes.now at 0 }
-    ensures upper_bound { result < 256 }
-{
-    bytes[at] as usize
-}
-
 // The number in the two bytes at a place.
 pub fn two_at(bytes: &[u8], at: usize) -> usize
     requires { at + 2 ≤ length bytes.now }
     ensures value { result ≡ number_at bytes.now at 2 }
     ensures upper_bound { result < 65536 }
 {
-    byte_at(bytes, at) + byte_at(bytes, at + 1) * 256
+    usize::from(u16::from_le_bytes([bytes[at], bytes[at + 1]]))
 }
 
 // The number in the four bytes at a place.
@@ -27,7 +18,7 @@ pub fn four_at(bytes: &[u8], at: usize) -> usize
     ensures value { result ≡ number_at bytes.now at 4 }
     ensures upper_bound { result < 4294967296 }
 {
-    two_at(bytes, at) + two_at(bytes, at + 2) * 65536
+    u32::from_le_bytes([bytes[at], bytes[at + 1], bytes[at + 2], bytes[at + 3]]) as usize
 }
 
 // The coordinate with these 32 bits.
@@ -35,10 +26,7 @@ pub fn coordinate_of(bits: usize) -> i32
     requires { bits < 4294967296 }
     ensures { result ≡ coordinate_of bits }
 {
-    if bits < 2147483648 {
-        return bits as i32;
-    }
-    (bits as i64 - 4294967296) as i32
+    (bits as u32).cast_signed()
 }
 
 // The coordinate in the four bytes at a place.
@@ -53,7 +41,7 @@ pub fn coordinate_at(bytes: &[u8], at: usize) -> i32
 pub fn bits_of(coordinate: i32) -> usize
     ensures { result ≡ bits_of coordinate }
 {
-    (coordinate as i64 + 4294967296) as usize % 4294967296
+    coordinate.cast_unsigned() as usize
 }
 
 // A number written into two bytes.
@@ -61,8 +49,8 @@ pub fn put_two(file: &mut [u8], at: usize, number: usize)
     requires { at + 2 ≤ length file.old }
     ensures { Put file.old at (bytes_of 2 number) file.new }
 {
-    file[at] = (number % 256) as u8;
-    file[at + 1] = (number / 256 % 256) as u8;
+    let bytes = ((number % 65536) as u16).to_le_bytes();
+    file[at..at + 2].copy_from_slice(&bytes);
 }
 
 // A number written into four bytes.
@@ -70,6 +58,6 @@ pub fn put_four(file: &mut [u8], at: usize, number: usize)
     requires { at + 4 ≤ length file.old }
     ensures { Put file.old at (bytes_of 4 number) file.new }
 {
-    put_two(file, at, number);
-    put_two(file, at + 2, number / 256 / 256);
+    let bytes = ((number % 4294967296) as u32).to_le_bytes();
+    file[at..at + 4].copy_from_slice(&bytes);
 }

@@ -12,15 +12,12 @@ pub const ROW: usize = 2;
 
 pub const LAST: usize = 3;
 
-// What begins at a place: a whole record, with the place behind it, or one of which bytes are missing.
+// A whole record: its kind, its payload's length, and the place behind it.
 #[derive(Clone, Copy)]
-pub enum Found {
-    Whole {
-        kind: usize,
-        length: usize,
-        next: usize,
-    },
-    Cut,
+pub struct Record {
+    pub kind: usize,
+    pub length: usize,
+    pub next: usize,
 }
 
 // How far the rows of a file are as expected: the first that is not, or their number, and where it begins.

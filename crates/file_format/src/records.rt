@@ -3,7 +3,7 @@
 ghost use Rattle.std.specs.Prelude.{◌≡◌};
 ghost use Rattle.file_format.specs.Records.{found_at, past_at};
 
-use super::Found;
+use super::Record;
 use super::bytes::{four_at, two_at};
 
 // The bytes, and the place reached.
@@ -13,36 +13,27 @@ pub struct Records<'a> {
     pub at: usize,
 }
 
-// The record that begins at a place.
-pub fn record_at(bytes: &[u8], at: usize) -> Found
+// The record that begins at a place, if all its bytes are there.
+pub fn record_at(bytes: &[u8], at: usize) -> Option<Record>
     ensures { result ≡ found_at bytes.now at }
 {
-    if bytes.len() < at {
-        return Found::Cut;
-    }
-    let left = bytes.len() - at;
-    if left < 6 {
-        return Found::Cut;
-    }
+    let room = bytes.len().checked_sub(at)?.checked_sub(6)?;
     let length = four_at(bytes, at);
-    if left - 6 < length {
-        return Found::Cut;
+    if room < length {
+        return None;
     }
-    Found::Whole {
+    Some(Record {
         kind: two_at(bytes, at + 4),
-        length: length,
+        length,
         next: at + 6 + length,
-    }
+    })
 }
 
 // The place behind the record that begins at a place; the place itself where bytes are missing.
 pub fn place_after(bytes: &[u8], at: usize) -> usize
     ensures { result ≡ past_at bytes.now at }
 {
-    match record_at(bytes, at) {
-        Found::Whole { kind, length, next } => next,
-        Found::Cut => at,
-    }
+    record_at(bytes, at).map_or(at, |record| record.next)
 }
 
 // The reader of these bytes, at the first of them.

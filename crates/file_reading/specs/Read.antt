@@ -1,20 +1,18 @@
 -- To be believed.
 -- Reading a file: 17, then 2 and 1, and V where it is accepted; the tables get the file's rows.
 -- Assumes nothing.
-use Rattle.std.specs.Prelude.{List, ℕ, ℤ}
+use Rattle.std.specs.Prelude.{List, ℕ, ℤ, Ok}
 use Rattle.rings.specs.Table.{Lent, put, valence_rows, ring_rows, point_rows}
 use Rattle.rings.specs.Verdict.{refuse_if, and_then, after, with_amount}
 use Rattle.rings.specs.Check.{bad_count, short_tables}
 use Rattle.rings.specs.declared.Refusal.TheVariants.{TableTooShort, VertexCount}
-use Rattle.rings.specs.declared.Verdict.{Verdict}
-use Rattle.rings.specs.declared.Verdict.TheVariants.{Accepted}
-use Rattle.rings.specs.declared.Amount.{Amount}
 use Rattle.file_format.specs.Layout.{file_count, file_ring, file_point, file_verdict}
+use Rattle.rings.specs.Refusal.{Amount, Verdict}
 
 module _ (s : List ℕ) (t : Lent) (ps : List ℤ) where
   -- 17, then 2 and 1
   unfoldable pub read_verdict : Verdict
-  read_verdict = and_then (file_verdict s) (refuse_if (bad_count (file_count s)) VertexCount (refuse_if (short_tables (file_count s) t ps) TableTooShort Accepted))
+  read_verdict = and_then (file_verdict s) (refuse_if (bad_count (file_count s)) VertexCount (refuse_if (short_tables (file_count s) t ps) TableTooShort (Ok tt)))
 
   -- V
   unfoldable pub read_answer : Amount

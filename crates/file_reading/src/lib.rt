@@ -11,8 +11,8 @@ use self::rows::read_rows;
 use file_format::bytes::two_at;
 use file_format::layout::judge;
 use mesh::limits::Vertex;
+use rings::Refusal;
 use rings::table::{is_bad_count, is_short};
-use rings::{Amount, Refusal, Verdict};
 
 // Reads a file: reasons 17, 2 and 1, and V. A refused file leaves the tables as they were.
 pub fn read(
@@ -20,24 +20,20 @@ pub fn read(
     valences: &mut [u16],
     rings: &mut [Vertex],
     positions: &mut [i32],
-) -> Amount
+) -> Result<usize, Refusal>
     ensures value { result ≡ read_answer bytes.now (lent valences.old rings.old) positions.old }
     ensures valences_after { valences.new ≡ read_valences bytes.now (lent valences.old rings.old) positions.old }
     ensures rings_after { rings.new ≡ read_rings bytes.now (lent valences.old rings.old) positions.old }
     ensures positions_after { positions.new ≡ read_positions bytes.now (lent valences.old rings.old) positions.old }
 {
-    match judge(bytes) {
-        Verdict::Refused(r) => Amount::Refused(r),
-        Verdict::Accepted => {
-            let count = two_at(bytes, 6);
-            if is_bad_count(count) {
-                return Amount::Refused(Refusal::VertexCount);
-            }
-            if is_short(valences, rings, positions, count) {
-                return Amount::Refused(Refusal::TableTooShort);
-            }
-            read_rows(bytes, valences, rings, positions, count);
-            Amount::Of(count)
-        }
+    judge(bytes)?;
+    let count = two_at(bytes, 6);
+    if is_bad_count(count) {
+        return Err(Refusal::VertexCount);
     }
+    if is_short(valences, rings, positions, count) {
+        return Err(Refusal::TableTooShort);
+    }
+    read_rows(bytes, valences, rings, positions, count);
+    Ok(count)
 }

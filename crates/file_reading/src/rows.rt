@@ -44,13 +44,11 @@ pub fn read_rows(
     ensures put_3 { Put positions.old 0 (point_rows (file_point bytes.now) count) positions.new }
 {
     let mut at = place_after(bytes, 0);
-    let mut v = 0;
-    while v < count {
+    for v in 0..count {
         let n = two_at(bytes, at + 18);
         valences[v] = n as u16;
         read_ring(bytes, at, rings, v, n);
         read_point(bytes, at, positions, v);
         at += 20 + 2 * n;
-        v += 1;
     }
 }

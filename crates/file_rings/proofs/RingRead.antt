@@ -7,13 +7,11 @@ use native.Mathlib.Omega.{arith}
 use lib.ListN.{length, set, replicate, length-replicate, length-set, replicate-append-replicate}
 use Rattle.mesh.specs.Limits.{null_vertex}
 use Rattle.rings.specs.Table.{put, gather, padded}
-use Rattle.rings.specs.declared.Amount.TheVariants as amount
 use Rattle.rings.proofs.Tables.{length_gather}
 use Rattle.file_format.specs.Bytes.{number_at}
 use Rattle.file_format.specs.Blocks.{Put, gather_from}
 use Rattle.file_format.specs.Layout.{row_at, file_valence, neighbour_at, file_ring}
 use Rattle.file_format.specs.Judging.{Row}
-use Rattle.file_format.proofs.Gathered.{length_from}
 use Rattle.file_format.proofs.Blocks.{put_one, then, put_is, renewed}
 
 -- one element that a call gave
@@ -29,9 +27,6 @@ row_cleared {l} {m} v h e = record { fits = let w = length-replicate {A = ℕ} 3
 
 pub length_neighbours : (s : List ℕ) (from n : ℕ) → length (gather (neighbour_at s from) n) ≡ n * 1
 length_neighbours s from n = length_gather (neighbour_at s from) 1 (λ i. refl) n
-
-pub length_part : (s : List ℕ) (from e n : ℕ) → length (gather_from (neighbour_at s from) e n) ≡ n * 1
-length_part s from e n = length_from (neighbour_at s from) 1 (λ i. refl) e n
 
 pub length_ring : (s : List ℕ) (v : ℕ) → length (file_ring s v) ≡ file_valence s (row_at s v)
 unfolding file_ring

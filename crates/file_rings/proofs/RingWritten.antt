@@ -5,19 +5,14 @@ use mathlib.Core.List.{List}
 use native.Mathlib.Nat.{add-zero}
 use lib.ListN.{length, get_or}
 use Rattle.rings.specs.Table.{gather}
-use Rattle.rings.specs.declared.Amount.TheVariants as amount
 use Rattle.rings.proofs.Tables.{length_gather}
 use Rattle.file_format.specs.Bytes.{bytes_of}
 use Rattle.file_format.specs.Blocks.{Put, gather_from}
 use Rattle.file_rings.specs.Neighbours.{neighbour_bytes}
-use Rattle.file_format.proofs.Gathered.{length_from}
 use Rattle.file_format.proofs.Blocks.{then, put_is}
 
 pub length_neighbour_bytes : (ring : List ℕ) (n : ℕ) → length (gather (neighbour_bytes ring) n) ≡ n * 2
 length_neighbour_bytes ring n = length_gather (neighbour_bytes ring) 2 (λ i. refl) n
-
-pub length_part_bytes : (ring : List ℕ) (e n : ℕ) → length (gather_from (neighbour_bytes ring) e n) ≡ n * 2
-length_part_bytes ring e n = length_from (neighbour_bytes ring) 2 (λ i. refl) e n
 
 -- four neighbours
 pub four_put : {l m₁ m₂ m₃ m₄ : List ℕ} {k : ℕ} (ring : List ℕ) (i : ℕ) → Put l k (bytes_of 2 (get_or ring i 0)) m₁ → Put m₁ (k + 2) (bytes_of 2 (get_or ring (i + 1) 0)) m₂ → Put m₂ (k + 4) (bytes_of 2 (get_or ring (i + 2) 0)) m₃

@@ -35,10 +35,8 @@ fn read_fours(bytes: &[u8], from: usize, rings: &mut [Vertex], to: usize, n: usi
     requires n_in_bounds_2 { to + n ≤ length rings.old }
     ensures { Put rings.old (to + 4) (gather_from (neighbour_at bytes.now from) 4 ((n - 4) / 4 * 4)) rings.new }
 {
-    let mut i = 0;
-    while i + 8 <= n {
-        read_four(bytes, from, rings, to, 4 + i);
-        i += 4;
+    for i in (4..n - 3).step_by(4) {
+        read_four(bytes, from, rings, to, i);
     }
 }
 
@@ -48,10 +46,8 @@ fn read_each(bytes: &[u8], from: usize, rings: &mut [Vertex], to: usize, n: usiz
     requires n_in_bounds_2 { to + n ≤ length rings.old }
     ensures { Put rings.old to (gather (neighbour_at bytes.now from) n) rings.new }
 {
-    let mut i = 0;
-    while i < n {
+    for i in 0..n {
         rings[to + i] = two_at(bytes, from + i * 2) as Vertex;
-        i += 1;
     }
 }
 

@@ -30,10 +30,8 @@ fn write_fours(file: &mut [u8], at: usize, ring: &[Vertex])
     requires ring_in_bounds { at + length ring.now * 2 ≤ length file.old }
     ensures { Put file.old (at + 8) (gather_from (neighbour_bytes ring.now) 4 ((length ring.now - 4) / 4 * 4)) file.new }
 {
-    let mut i = 0;
-    while i + 8 <= ring.len() {
-        write_four(file, at, ring, 4 + i);
-        i += 4;
+    for i in (4..ring.len() - 3).step_by(4) {
+        write_four(file, at, ring, i);
     }
 }
 
@@ -42,10 +40,8 @@ fn write_each(file: &mut [u8], at: usize, ring: &[Vertex])
     requires { at + length ring.now * 2 ≤ length file.old }
     ensures { Put file.old at (gather (neighbour_bytes ring.now) (length ring.now)) file.new }
 {
-    let mut i = 0;
-    while i < ring.len() {
-        put_two(file, at + i * 2, ring[i] as usize);
-        i += 1;
+    for (i, u) in ring.iter().enumerate() {
+        put_two(file, at + i * 2, *u as usize);
     }
 }
 

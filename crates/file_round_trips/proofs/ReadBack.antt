@@ -17,8 +17,6 @@ use Rattle.rings.specs.Table.{Lent, lent, valence_at, ring_of, coordinate_at}
 use Rattle.rings.specs.Verdict.{refuse_if, refuse_at, and_then, after, with_amount}
 use Rattle.rings.specs.Check.{bad_count, short_tables}
 use Rattle.rings.specs.declared.Refusal.TheVariants.{TableTooShort, VertexCount, RingImproper, NoRoom}
-use Rattle.rings.specs.declared.Verdict.TheVariants.{Accepted}
-use Rattle.rings.specs.declared.Amount.TheVariants.{Of}
 use Rattle.rings.proofs.Checks.{told_most, long_tables}
 use Rattle.rings.proofs.Rows.{row_length}
 use Rattle.rings.proofs.Verdicts.{if_accepted, at_accepted, if_clear}
@@ -30,6 +28,7 @@ use Rattle.file_writing.proofs.RowsWritten.{stored_row}
 use Rattle.file_format.proofs.Gathered.{put_front}
 use Rattle.file_format.proofs.InTables.{answered, in_valence, in_ring, in_point}
 use Rattle.file_round_trips.proofs.Written.{Storable, written_count, written_ring, written_point, written_good}
+use Rattle.std.specs.Prelude.{Ok}
 
 -- the same valences, used places and coordinates of n vertices
 pub record Same (n : ℕ) (t : Lent) (ps : List ℤ) (t' : Lent) (ps' : List ℤ) : Type 0 where
@@ -39,22 +38,22 @@ pub record Same (n : ℕ) (t : Lent) (ps : List ℤ) (t' : Lent) (ps' : List ℤ
 
 -- ---- what an accepted writing tells
 
-module _ (n : ℕ) (t : Lent) (ps : List ℤ) (room : List ℕ) (w : write_verdict n t ps room ≡ Accepted) where
+module _ (n : ℕ) (t : Lent) (ps : List ℤ) (room : List ℕ) (w : write_verdict n t ps room ≡ (Ok tt)) where
   abbrev file : List ℕ
   file = file_of n (ring_of t) (coordinate_at ps)
 
   -- the stages
-  past2 : (bad_count n ≡ false) × (refuse_if (short_tables n t ps) TableTooShort (refuse_at (over_most t.valences) n RingImproper (refuse_if (ltb (length room) (length file)) NoRoom Accepted)) ≡ Accepted)
+  past2 : (bad_count n ≡ false) × (refuse_if (short_tables n t ps) TableTooShort (refuse_at (over_most t.valences) n RingImproper (refuse_if (ltb (length room) (length file)) NoRoom (Ok tt))) ≡ (Ok tt))
   unfolding write_verdict
-  past2 = if_accepted (bad_count n) VertexCount (refuse_if (short_tables n t ps) TableTooShort (refuse_at (over_most t.valences) n RingImproper (refuse_if (ltb (length room) (length file)) NoRoom Accepted))) w
+  past2 = if_accepted (bad_count n) VertexCount (refuse_if (short_tables n t ps) TableTooShort (refuse_at (over_most t.valences) n RingImproper (refuse_if (ltb (length room) (length file)) NoRoom (Ok tt)))) w
 
   pub written_fair : bad_count n ≡ false
   written_fair = past2.0
 
   pub written_stored : Stored n t ps
   written_stored =
-      let a = if_accepted (short_tables n t ps) TableTooShort (refuse_at (over_most t.valences) n RingImproper (refuse_if (ltb (length room) (length file)) NoRoom Accepted)) past2.1 in
-      let b = at_accepted (over_most t.valences) n RingImproper (refuse_if (ltb (length room) (length file)) NoRoom Accepted) a.1 in
+      let a = if_accepted (short_tables n t ps) TableTooShort (refuse_at (over_most t.valences) n RingImproper (refuse_if (ltb (length room) (length file)) NoRoom (Ok tt))) past2.1 in
+      let b = at_accepted (over_most t.valences) n RingImproper (refuse_if (ltb (length room) (length file)) NoRoom (Ok tt)) a.1 in
       let r = long_tables n t ps a.0 in
       record { room = r.0; points = r.1; most = λ v l. ltb-false 32 (valence_at t v) (b.0.below v l) }
 
@@ -85,15 +84,15 @@ module _ (n : ℕ) (ring : ℕ → List ℕ) (point : ℕ → ℕ → ℤ) (ok :
   abbrev bytes : List ℕ
   bytes = file_of n ring point
 
-  again_verdict : read_verdict bytes t ps ≡ Accepted
+  again_verdict : read_verdict bytes t ps ≡ (Ok tt)
   unfolding read_verdict and_then
   again_verdict =
       rw (written_good n ring point ok, written_count n ring point ok)
-      (if_clear (bad_count n) VertexCount (refuse_if (short_tables n t ps) TableTooShort Accepted) fair ∙ if_clear (short_tables n t ps) TableTooShort Accepted long)
+      (if_clear (bad_count n) VertexCount (refuse_if (short_tables n t ps) TableTooShort (Ok tt)) fair ∙ if_clear (short_tables n t ps) TableTooShort (Ok tt) long)
 
-  again_answer : read_answer bytes t ps ≡ Of n
+  again_answer : read_answer bytes t ps ≡ Ok n
   unfolding read_answer with_amount
-  again_answer = rw again_verdict (ap Of (written_count n ring point ok))
+  again_answer = rw again_verdict (ap Ok (written_count n ring point ok))
 
   most : (v : ℕ) → v < file_count bytes → length (file_ring bytes v) ≤ 32
   most v l = let c = written_count n ring point ok in let e = ap length (written_ring n ring point ok v (omega arith)) in let m = ok.most v (omega arith) in omega arith
@@ -114,13 +113,13 @@ module _ (n : ℕ) (ring : ℕ → List ℕ) (point : ℕ → ℕ → ℤ) (ok :
     unfolding read_positions after
     again_point axis h = rw again_verdict (in_point (file_count bytes) v below (file_point bytes) ps axis h ∙ written_point n ring point ok v l axis h)
 
-module _ (n k : ℕ) (t : Lent) (ps : List ℤ) (room : List ℕ) (near : (j : ℕ) → get_or t.rings j 0 < place_bound) (held : (j : ℕ) → SFits w32 (get_or ps j (pos 0))) (w : write_answer n t ps room ≡ Of k)
+module _ (n k : ℕ) (t : Lent) (ps : List ℤ) (room : List ℕ) (near : (j : ℕ) → get_or t.rings j 0 < place_bound) (held : (j : ℕ) → SFits w32 (get_or ps j (pos 0))) (w : write_answer n t ps room ≡ Ok k)
     (t' : Lent) (ps' : List ℤ) (long : short_tables n t' ps' ≡ false) where
   -- the bytes written
   abbrev written : List ℕ
   written = take k (write_room n t ps room)
 
-  pub read_back_lem : (read_answer written t' ps' ≡ Of n) × Same n t ps (lent (read_valences written t' ps') (read_rings written t' ps')) (read_positions written t' ps')
+  pub read_back_lem : (read_answer written t' ps' ≡ Ok n) × Same n t ps (lent (read_valences written t' ps') (read_rings written t' ps')) (read_positions written t' ps')
   unfolding write_answer
   read_back_lem =
       let (a, e) = answered (write_verdict n t ps room) (length (file_of n (ring_of t) (coordinate_at ps))) k w in

@@ -14,8 +14,6 @@ use Rattle.rings.specs.Table.{Lent, lent, valence_at, put, gather, ring_of, coor
 use Rattle.rings.specs.Verdict.{refuse_if, refuse_at, after, with_amount}
 use Rattle.rings.specs.Check.{bad_count, short_rings, short_tables}
 use Rattle.rings.specs.declared.Refusal.TheVariants.{TableTooShort, VertexCount, RingImproper, NoRoom}
-use Rattle.rings.specs.declared.Verdict.TheVariants.{Accepted}
-use Rattle.rings.specs.declared.Amount.TheVariants.{Of}
 use Rattle.rings.proofs.Tables.{length_put, length_gather, gather_same, length_padded}
 use Rattle.rings.proofs.Checks.{long_tables}
 use Rattle.rings.proofs.Verdicts.{if_accepted, then_accepted, if_clear, at_clear}
@@ -32,6 +30,7 @@ use Rattle.file_format.proofs.Gathered.{gather_one, length_rows_below}
 use Rattle.file_round_trips.proofs.Inverse.{four_lt, bits_coordinate}
 use Rattle.file_format.proofs.InTables.{answered, in_valence, in_ring, in_point}
 use Rattle.file_round_trips.proofs.Parts.{Part, part_none, join, part_long, part_number}
+use Rattle.std.specs.Prelude.{Ok}
 
 -- ---- an accepted layout
 
@@ -127,7 +126,7 @@ file_same n ring ring' point point' e h =
     ap (λ (x : List ℕ). record_of 1 (bytes_of 2 n) ++ (x ++ record_of 3 []))
     (gather_same (row_bytes ring point) (row_bytes ring' point') n (λ v l. row_same (ring v) (ring' v) (λ axis. point axis v) (λ axis. point' axis v) (e v l) (h v l)))
 
-module _ (s : List ℕ) (t : Lent) (ps : List ℤ) (a : read_verdict s t ps ≡ Accepted) where
+module _ (s : List ℕ) (t : Lent) (ps : List ℤ) (a : read_verdict s t ps ≡ (Ok tt)) where
   abbrev n : ℕ
   n = file_count s
 
@@ -138,12 +137,12 @@ module _ (s : List ℕ) (t : Lent) (ps : List ℤ) (a : read_verdict s t ps ≡ 
   ps' = read_positions s t ps
 
   -- the stages
-  stages : (file_verdict s ≡ Accepted) × ((bad_count n ≡ false) × (short_tables n t ps ≡ false))
+  stages : (file_verdict s ≡ (Ok tt)) × ((bad_count n ≡ false) × (short_tables n t ps ≡ false))
   unfolding read_verdict
   stages =
-      let b = then_accepted (file_verdict s) (refuse_if (bad_count n) VertexCount (refuse_if (short_tables n t ps) TableTooShort Accepted)) a in
-      let c = if_accepted (bad_count n) VertexCount (refuse_if (short_tables n t ps) TableTooShort Accepted) b.1 in
-      (b.0, (c.0, (if_accepted (short_tables n t ps) TableTooShort Accepted c.1).0))
+      let b = then_accepted (file_verdict s) (refuse_if (bad_count n) VertexCount (refuse_if (short_tables n t ps) TableTooShort (Ok tt))) a in
+      let c = if_accepted (bad_count n) VertexCount (refuse_if (short_tables n t ps) TableTooShort (Ok tt)) b.1 in
+      (b.0, (c.0, (if_accepted (short_tables n t ps) TableTooShort (Ok tt) c.1).0))
 
   laid : Good s
   laid = good s stages.0
@@ -196,22 +195,22 @@ module _ (s : List ℕ) (t : Lent) (ps : List ℤ) (a : read_verdict s t ps ≡ 
     written_same = file_same n (ring_of t') (file_ring s) (coordinate_at ps') (file_point s) ring_read_lem point_read ∙ same_bytes s byte laid
 
     module _ (room : List ℕ) (fits : length s ≤ length room) where
-      accepted_again : write_verdict n t' ps' room ≡ Accepted
+      accepted_again : write_verdict n t' ps' room ≡ (Ok tt)
       unfolding write_verdict
       accepted_again =
-          let last = refuse_if (ltb (length room) (length (file_of n (ring_of t') (coordinate_at ps')))) NoRoom Accepted in
+          let last = refuse_if (ltb (length room) (length (file_of n (ring_of t') (coordinate_at ps')))) NoRoom (Ok tt) in
           if_clear (bad_count n) VertexCount (refuse_if (short_tables n t' ps') TableTooShort (refuse_at (over_most t'.valences) n RingImproper last)) stages.1.0
           ∙ if_clear (short_tables n t' ps') TableTooShort (refuse_at (over_most t'.valences) n RingImproper last) still_long
           ∙ at_clear (over_most t'.valences) n RingImproper last (λ v l. le-ltb 32 (valence_at t' v) (let e = valence_read v l in let m = most v l in omega arith))
-          ∙ if_clear (ltb (length room) (length (file_of n (ring_of t') (coordinate_at ps')))) NoRoom Accepted
+          ∙ if_clear (ltb (length room) (length (file_of n (ring_of t') (coordinate_at ps')))) NoRoom (Ok tt)
           (le-ltb (length room) (length (file_of n (ring_of t') (coordinate_at ps'))) (rw written_same fits))
 
-      answer_again : (write_answer n t' ps' room ≡ Of (length s)) × (write_room n t' ps' room ≡ put room 0 s)
+      answer_again : (write_answer n t' ps' room ≡ Ok (length s)) × (write_room n t' ps' room ≡ put room 0 s)
       unfolding write_answer write_room with_amount after
-      answer_again = rw accepted_again (ap (λ (x : List ℕ). Of (length x)) written_same, ap (put room 0) written_same)
+      answer_again = rw accepted_again (ap (λ (x : List ℕ). Ok (length x)) written_same, ap (put room 0) written_same)
 
-pub write_back : (s : List ℕ) → ((j : ℕ) → get_or s j 0 < 256) → (n : ℕ) (t : Lent) (ps : List ℤ) → read_answer s t ps ≡ Of n → (room : List ℕ) → length s ≤ length room
-    → (write_answer n (lent (read_valences s t ps) (read_rings s t ps)) (read_positions s t ps) room ≡ Of (length s))
+pub write_back : (s : List ℕ) → ((j : ℕ) → get_or s j 0 < 256) → (n : ℕ) (t : Lent) (ps : List ℤ) → read_answer s t ps ≡ Ok n → (room : List ℕ) → length s ≤ length room
+    → (write_answer n (lent (read_valences s t ps) (read_rings s t ps)) (read_positions s t ps) room ≡ Ok (length s))
     × (write_room n (lent (read_valences s t ps) (read_rings s t ps)) (read_positions s t ps) room ≡ put room 0 s)
 unfolding read_answer
 write_back s byte n t ps r room fits =

@@ -15,7 +15,6 @@ use Rattle.mesh.specs.Limits.{place_bound}
 use Rattle.mesh.proofs.Lists.{climbs}
 use Rattle.rings.specs.Table.{gather}
 use Rattle.rings.specs.declared.Refusal.TheVariants.{FileLayout}
-use Rattle.rings.specs.declared.Verdict.TheVariants.{Accepted}
 use Rattle.rings.proofs.Verdicts.{if_clear, at_clear}
 use Rattle.file_format.specs.Bytes.{bytes_of, number_of, bits_of, coordinate_of, record_of, number_at, length_at, kind_at, after_at}
 use Rattle.file_format.specs.Layout.{file_count, row_at, file_valence, file_ring, file_point, record_at, is_first, is_row, is_last, file_verdict}
@@ -30,6 +29,7 @@ use Rattle.file_writing.proofs.RowsWritten.{length_payload, length_row, length_f
 use Rattle.file_format.proofs.Gathered.{gather_split, gather_drop, gather_all}
 use Rattle.rings.proofs.Tables.{gather_same}
 use Rattle.file_round_trips.proofs.Inverse.{number_bytes_two, number_bytes_four, number_from, number_here}
+use Rattle.std.specs.Prelude.{Ok}
 
 -- what a file can hold: at most 65,535 rows of at most 32 neighbours, in 16 bits each, with coordinates in 32 bits
 pub record Storable (n : ℕ) (ring : ℕ → List ℕ) (point : ℕ → ℕ → ℤ) : Type 0 where
@@ -197,7 +197,7 @@ module _ (n : ℕ) (ring : ℕ → List ℕ) (point : ℕ → ℕ → ℤ) (ok :
       ∙ record_is file (place n) 3 0 (number_from file (record_of 3 []) (place n) 4 2 last_placed) (number_here file (record_of 3 []) (place n) 4 last_placed) (omega (arith, place_end))
 
   -- the layout is as expected
-  pub written_good : file_verdict file ≡ Accepted
+  pub written_good : file_verdict file ≡ (Ok tt)
   unfolding file_verdict
   written_good =
       let c = written_count in
@@ -206,4 +206,4 @@ module _ (n : ℕ) (ring : ℕ → List ℕ) (point : ℕ → ℕ → ℤ) (ok :
       if_clear (not (is_first file)) (FileLayout 0) (all file (file_count file)) (ap not written_first)
       ∙ at_clear (no_row file) (file_count file) (λ v. FileLayout (row_at file v)) (last file at) (λ v l. ap not (written_row v (omega arith)))
       ∙ if_clear (not (is_last file at)) (FileLayout at) (tail file at) (ap not (ap (λ (k : ℕ). is_last file (row_at file k)) c ∙ written_last))
-      ∙ if_clear (ltb (at + 6) (length file)) (FileLayout (at + 6)) Accepted (le-ltb (at + 6) (length file) (omega (arith, place_end)))
+      ∙ if_clear (ltb (at + 6) (length file)) (FileLayout (at + 6)) (Ok tt) (le-ltb (at + 6) (length file) (omega (arith, place_end)))

@@ -1,12 +1,11 @@
 -- To be believed.
 -- The file of a tetrahedron, cut, lengthened and altered, and what reading has to say of each: reason 17 and its place.
 -- Assumes nothing.
-use Rattle.std.specs.Prelude.{ℕ, List, [], ◌∷◌, ◌++◌, ℤ, pos, get_or, take, drop, set}
+use Rattle.std.specs.Prelude.{ℕ, List, [], ◌∷◌, ◌++◌, ℤ, pos, get_or, take, drop, set, Ok, Err}
 use Rattle.rings.specs.declared.Refusal.TheVariants.{FileLayout}
-use Rattle.rings.specs.declared.Verdict.{Verdict}
-use Rattle.rings.specs.declared.Verdict.TheVariants.{Accepted, Refused}
 use Rattle.file_format.specs.Bytes.{bytes_of, record_of}
 use Rattle.file_writing.specs.Write.{row_bytes, file_of}
+use Rattle.rings.specs.Refusal.{Verdict}
 
 -- the rings of a tetrahedron, with every vertex at the origin
 abbrev pub rings : ℕ → List ℕ
@@ -46,10 +45,10 @@ files =
 
 -- refused at a place
 abbrev pub at : ℕ → Verdict
-at place = Refused (FileLayout place)
+at place = Err (FileLayout place)
 
 -- the verdict on each
 abbrev pub verdicts : List Verdict
 verdicts =
-    Accepted ∷ at 0 ∷ at 0 ∷ at 8 ∷ at 8 ∷ at 8 ∷ at 34 ∷ at 112 ∷ at 112 ∷ at 118 ∷ at 34 ∷ at 34 ∷ at 112 ∷ at 34
-    ∷ at 34 ∷ at 34 ∷ Accepted ∷ []
+    (Ok tt) ∷ at 0 ∷ at 0 ∷ at 8 ∷ at 8 ∷ at 8 ∷ at 34 ∷ at 112 ∷ at 112 ∷ at 118 ∷ at 34 ∷ at 34 ∷ at 112 ∷ at 34
+    ∷ at 34 ∷ at 34 ∷ (Ok tt) ∷ []

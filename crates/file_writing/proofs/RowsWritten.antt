@@ -8,7 +8,9 @@ use native.Mathlib.Omega.{arith}
 use borrow.Author.Tests.{lt-ltb, le-ltb, ltb-false}
 use lib.Dec.{ltb}
 use lib.IntN.{ℤ, pos}
-use lib.ListN.{length, get_or, length-append}
+use lib.ListN.{length, get_or, take, length-append}
+use Rattle.std.specs.List.{sum_by}
+use Rattle.std.proofs.lemmas.List.Sums.{sum_by_more}
 use Rattle.mesh.specs.Search.{sum, first}
 use Rattle.mesh.proofs.First.{first_clear}
 use Rattle.mesh.proofs.Lists.{climbs}
@@ -18,11 +20,6 @@ use Rattle.rings.specs.Check.{bad_count, short_tables}
 use Rattle.rings.specs.Accepts.{HasRow}
 use Rattle.rings.specs.declared.Refusal.{Refusal}
 use Rattle.rings.specs.declared.Refusal.TheVariants.{TableTooShort, VertexCount, RingImproper, NoRoom}
-use Rattle.rings.specs.declared.Verdict.{Verdict}
-use Rattle.rings.specs.declared.Verdict.TheVariants.{Accepted, Refused}
-use Rattle.rings.specs.declared.Amount.{Amount}
-use Rattle.rings.specs.declared.Amount.TheVariants as amount
-use Rattle.rings.specs.declared.Amount.TheVariants.{Of}
 use Rattle.rings.proofs.Rows.{row_length, room_row}
 use Rattle.rings.proofs.Checks.{long_tables}
 use Rattle.rings.proofs.Verdicts.{if_hit, if_pass, at_hit, at_pass}
@@ -33,6 +30,8 @@ use Rattle.file_rings.proofs.RingWritten.{length_neighbour_bytes}
 use Rattle.file_writing.specs.Write.{payload_of, row_bytes, file_of, rows_length, over_most, write_verdict, write_answer, write_room}
 use Rattle.file_writing.specs.Storing.{point_bytes, Stored}
 use Rattle.file_format.proofs.Blocks.{then, put_is}
+use Rattle.rings.specs.Refusal.{Amount, Verdict}
+use Rattle.std.specs.Prelude.{Ok, Err}
 
 -- ---- lengths
 
@@ -69,6 +68,20 @@ length_up vs i = omega arith
 -- the bytes up to row v, and of row v, are among those of all rows
 pub length_within : (vs : List ℕ) (v n : ℕ) → v < n → rows_length vs v + (20 + 2 * get_or vs v 0) ≤ rows_length vs n
 length_within vs v n h = let a = length_more vs v in let b = climbs (rows_length vs) (length_up vs) (v + 1) n (omega arith) in omega arith
+
+-- a row takes at most what one of 65,535 neighbours would
+pub length_most : (vs : List ℕ) → ((i : ℕ) → get_or vs i 0 < 65536) → (n : ℕ) → rows_length vs n ≤ 131090 * n
+unfolding rows_length
+length_most vs h zero = omega arith
+length_most vs h (suc n) = omega (arith, length_most vs h n, h n)
+
+-- the same bytes, summed along the list
+pub rows_sum : (vs : List ℕ) (n : ℕ) → n ≤ length vs → sum_by (λ k. 20 + 2 * k) (take n vs) ≡ rows_length vs n
+unfolding rows_length
+rows_sum vs zero h = refl
+rows_sum vs (suc n) h =
+    let f : ℕ → ℕ = λ k. 20 + 2 * k in
+    ap (λ (k : ℕ). sum_by f (take k vs)) (sym (add-one n)) ∙ sum_by_more f vs n 0 (omega arith) ∙ ap (λ (k : ℕ). k + f (get_or vs n 0)) (rows_sum vs n (omega arith))
 
 -- ---- a row
 
@@ -124,13 +137,13 @@ module _ (n : ℕ) (t : Lent) (ps : List ℤ) (room : List ℕ) where
   abbrev file : List ℕ
   file = file_of n (ring_of t) (coordinate_at ps)
 
-  refused : (r : Refusal) → Refused r ≡ write_verdict n t ps room → Shown n t ps room (amount.Refused r) room
+  refused : (r : Refusal) → Err r ≡ write_verdict n t ps room → Shown n t ps room (Err r) room
   unfolding write_answer write_room with_amount after
   refused r e = rw (← e) (refl, refl)
 
   -- what is left of the verdict before each stage
   abbrev from10 : Verdict
-  from10 = refuse_if (ltb (length room) (length file)) NoRoom Accepted
+  from10 = refuse_if (ltb (length room) (length file)) NoRoom (Ok tt)
 
   abbrev from4 : Verdict
   from4 = refuse_at (over_most t.valences) n RingImproper from10
@@ -139,7 +152,7 @@ module _ (n : ℕ) (t : Lent) (ps : List ℤ) (room : List ℕ) where
   from1 = refuse_if (short_tables n t ps) TableTooShort from4
 
   module _ {a : Bool} (p : a ≡ bad_count n) where
-    pub write_bad : a ≡ true → Shown n t ps room (amount.Refused VertexCount) room
+    pub write_bad : a ≡ true → Shown n t ps room (Err VertexCount) room
     unfolding write_verdict
     write_bad y = refused VertexCount (if_hit (bad_count n) VertexCount from1 a p y)
 
@@ -148,14 +161,14 @@ module _ (n : ℕ) (t : Lent) (ps : List ℤ) (room : List ℕ) where
       unfolding write_verdict
       past2 = sym (if_pass (bad_count n) VertexCount from1 a p y)
 
-      pub write_short : b ≡ true → Shown n t ps room (amount.Refused TableTooShort) room
+      pub write_short : b ≡ true → Shown n t ps room (Err TableTooShort) room
       write_short u = refused TableTooShort (if_hit (short_tables n t ps) TableTooShort from4 b q u ∙ past2)
 
       module _ (u : b ≡ false) (v : ℕ) (f : v ≡ first (over_most t.valences) n) where
         past1 : from4 ≡ write_verdict n t ps room
         past1 = sym (if_pass (short_tables n t ps) TableTooShort from4 b q u) ∙ past2
 
-        pub write_over : v < n → Shown n t ps room (amount.Refused (RingImproper v)) room
+        pub write_over : v < n → Shown n t ps room (Err (RingImproper v)) room
         write_over l = refused (RingImproper v) (at_hit (over_most t.valences) n RingImproper from10 v f l ∙ past1)
 
         module _ (l : n ≤ v) where
@@ -168,15 +181,15 @@ module _ (n : ℕ) (t : Lent) (ps : List ℤ) (room : List ℕ) where
           past4 = sym (at_pass (over_most t.valences) n RingImproper from10 v f l) ∙ past1
 
           module _ (size : ℕ) (s : size ≡ rows_length t.valences n) where
-            pub write_full : length room < 14 + size → Shown n t ps room (amount.Refused NoRoom) room
+            pub write_full : length room < 14 + size → Shown n t ps room (Err NoRoom) room
             write_full h =
                 let g = file_long stored in
-                refused NoRoom (if_hit (ltb (length room) (length file)) NoRoom Accepted (ltb (length room) (length file)) refl (lt-ltb (length room) (length file) (omega arith)) ∙ past4)
+                refused NoRoom (if_hit (ltb (length room) (length file)) NoRoom (Ok tt) (ltb (length room) (length file)) refl (lt-ltb (length room) (length file) (omega arith)) ∙ past4)
 
-            pub write_done : 14 + size ≤ length room → {room' : List ℕ} → Put room 0 file room' → Shown n t ps room (Of (14 + size)) room'
+            pub write_done : 14 + size ≤ length room → {room' : List ℕ} → Put room 0 file room' → Shown n t ps room (Ok (14 + size)) room'
             unfolding write_answer write_room with_amount after
             write_done h w =
                 let g : length file ≡ 14 + size = file_long stored ∙ ap (λ (k : ℕ). 14 + k) (sym s) in
-                let e : Accepted ≡ write_verdict n t ps room =
-                sym (if_pass (ltb (length room) (length file)) NoRoom Accepted (ltb (length room) (length file)) refl (le-ltb (length room) (length file) (omega arith))) ∙ past4 in
-                rw (← e) (ap Of (sym g), w.is)
+                let e : (Ok tt) ≡ write_verdict n t ps room =
+                sym (if_pass (ltb (length room) (length file)) NoRoom (Ok tt) (ltb (length room) (length file)) refl (le-ltb (length room) (length file) (omega arith))) ∙ past4 in
+                rw (← e) (ap Ok (sym g), w.is)

@@ -1,18 +1,16 @@
 -- To be believed.
 -- Writing a file: 2, 1, 4 where a valence is over 32, 10, and the number of bytes where it is accepted. The file itself is the grammar that reading judges: one record with V, the rows, one last record.
 -- Assumes nothing.
-use Rattle.std.specs.Prelude.{Bool, List, [], ◌++◌, ℕ, ◌+◌, ◌*◌, ltb, ℤ, length, get_or}
+use Rattle.std.specs.Prelude.{Bool, List, [], ◌++◌, ℕ, ◌+◌, ◌*◌, ltb, ℤ, length, get_or, Ok}
 use Rattle.mesh.specs.Limits.{most_valence}
 use Rattle.mesh.specs.Search.{sum}
 use Rattle.rings.specs.Table.{Lent, gather, put, ring_of, coordinate_at}
 use Rattle.rings.specs.Verdict.{refuse_if, refuse_at, after, with_amount}
 use Rattle.rings.specs.Check.{bad_count, short_tables}
 use Rattle.rings.specs.declared.Refusal.TheVariants.{TableTooShort, VertexCount, RingImproper, NoRoom}
-use Rattle.rings.specs.declared.Verdict.{Verdict}
-use Rattle.rings.specs.declared.Verdict.TheVariants.{Accepted}
-use Rattle.rings.specs.declared.Amount.{Amount}
 use Rattle.file_format.specs.Bytes.{bytes_of, bits_of, record_of}
 use Rattle.file_rings.specs.Neighbours.{neighbour_bytes}
+use Rattle.rings.specs.Refusal.{Amount, Verdict}
 
 -- the payload of a row: three coordinates in four bytes each, the valence in two, and the neighbours in two each
 unfoldable pub payload_of : List ℕ → (ℕ → ℤ) → List ℕ
@@ -47,7 +45,7 @@ module _ (n : ℕ) (t : Lent) (ps : List ℤ) (room : List ℕ) where
       (refuse_if (short_tables n t ps) TableTooShort
       (refuse_at (over_most t.valences) n RingImproper
       (refuse_if (ltb (length room) (length bytes)) NoRoom
-      Accepted)))
+      (Ok tt))))
 
   -- the number of bytes
   unfoldable pub write_answer : Amount

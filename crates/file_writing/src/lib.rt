@@ -13,22 +13,17 @@ use self::rows::{put_head, put_rows};
 use file_format::bytes::put_two;
 use file_format::{FIRST, LAST};
 use mesh::limits::{MOST_VALENCE, Vertex};
+use rings::Refusal;
 use rings::table::{is_bad_count, is_short};
-use rings::{Amount, Refusal};
 
 // The first vertex whose valence is over 32, or the count.
 fn first_over(valences: &[u16], count: usize) -> usize
     requires { count ≤ length valences.now }
     ensures { result ≡ first (over_most valences.now) count }
 {
-    let mut v = 0;
-    while v < count {
-        if MOST_VALENCE < valences[v] as usize {
-            return v;
-        }
-        v += 1;
-    }
-    v
+    (0..count)
+        .find(|v| MOST_VALENCE < valences[*v] as usize)
+        .unwrap_or(count)
 }
 
 // How many bytes the rows take.
@@ -38,13 +33,10 @@ fn rows_length(valences: &[u16], count: usize) -> usize
     ensures value { result ≡ rows_length valences.now count }
     ensures upper_bound { result ≤ 131090 * most_count }
 {
-    let mut size = 0;
-    let mut v = 0;
-    while v < count {
-        size += 20 + 2 * (valences[v] as usize);
-        v += 1;
-    }
-    size
+    valences[..count]
+        .iter()
+        .map(|n| 20 + 2 * usize::from(*n))
+        .sum()
 }
 
 // Writes the tables as a file: reasons 2, 1, 4 where a valence is over 32, and 10; and the number of bytes. Refused, the room is left as it was.
@@ -54,27 +46,27 @@ pub fn write(
     positions: &[i32],
     count: usize,
     file: &mut [u8],
-) -> Amount
+) -> Result<usize, Refusal>
     ensures value { result ≡ write_answer count (lent valences.now rings.now) positions.now file.old }
     ensures file_after { file.new ≡ write_room count (lent valences.now rings.now) positions.now file.old }
 {
     if is_bad_count(count) {
-        return Amount::Refused(Refusal::VertexCount);
+        return Err(Refusal::VertexCount);
     }
     if is_short(valences, rings, positions, count) {
-        return Amount::Refused(Refusal::TableTooShort);
+        return Err(Refusal::TableTooShort);
     }
     let over = first_over(valences, count);
     if over < count {
-        return Amount::Refused(Refusal::RingImproper(over));
+        return Err(Refusal::RingImproper(over));
     }
     let size = 14 + rows_length(valences, count);
     if file.len() < size {
-        return Amount::Refused(Refusal::NoRoom);
+        return Err(Refusal::NoRoom);
     }
     put_head(file, 0, 2, FIRST);
     put_two(file, 6, count);
     let at = put_rows(file, valences, rings, positions, count);
     put_head(file, at, 0, LAST);
-    Amount::Of(size)
+    Ok(size)
 }

@@ -82,10 +82,8 @@ pub fn put_rows(
     ensures value { result ≡ 8 + rows_length valences.now count }
 {
     let mut at = 8;
-    let mut v = 0;
-    while v < count {
+    for v in 0..count {
         at = put_row(file, at, valences, rings, positions, v);
-        v += 1;
     }
     at
 }

@@ -11,6 +11,7 @@ use std::io::{Read, Stdin};
 fn read_full(stdin: &mut Stdin, input: &mut [u8]) -> io::Result<usize>
     ensures { IfOk result (λ size. size ≤ length input.new) }
 {
+    // A `while`, as a turn goes on by as many bytes as one read gives.
     let mut size = 0;
     while size < input.len() {
         let more = stdin.read(&mut input[size..])?;

@@ -1,17 +1,16 @@
 -- The lines of the listing, written part after part. Assumes nothing.
 use Prim.Native.Nat.{ℕ, ◌+◌, ◌*◌, ◌≤◌}
 use mathlib.Core.Path.{◌≡◌, refl, sym, ap}
-use mathlib.Core.List.{List}
+use mathlib.Core.List.{List, ◌++◌}
 use native.Mathlib.Nat.{add-zero}
 use native.Mathlib.Omega.{arith}
-use lib.ListN.{length, get_or, set, length-set}
+use lib.ListN.{length, get_or, drop}
 use Rattle.file_format.specs.Blocks.{Put}
-use Rattle.file_format.proofs.Blocks.{put_one, then}
 use Rattle.numerals.specs.Wrote.{Wrote}
 use Rattle.numerals.specs.Numerals.{blank, newline, number, signed}
 use Rattle.numerals.proofs.Writing.{wrote_is, wrote_then}
 use lib.IntN.{ℤ, pos}
-use Rattle.rings.specs.Table.{coordinate_at}
+use Rattle.rings.specs.Table.{coordinate_at, put}
 use Rattle.rings.specs.Refusal.{number_of, place_of}
 use Rattle.rings.specs.declared.Refusal.{Refusal}
 use Rattle.listing_lines.specs.Lines.{vertex_line, word, refused_line}
@@ -30,9 +29,9 @@ vertex_wrote vs ps base j a x y z b =
     (omega arith))
     (omega arith)
 
-pub word_put : (l : List ℕ) → 8 ≤ length l → Put l 0 word (set (set (set (set (set (set (set (set l 0 114) 1 101) 2 102) 3 117) 4 115) 5 101) 6 100) 7 32)
-word_put l h =
-    then (then (then (then (then (then (then (put_one (omega arith)) (put_one (simp length-set (omega arith))) refl) (put_one (simp length-set (omega arith))) refl) (put_one (simp length-set (omega arith))) refl) (put_one (simp length-set (omega arith))) refl) (put_one (simp length-set (omega arith))) refl) (put_one (simp length-set (omega arith))) refl) (put_one (simp length-set (omega arith))) refl
+pub word_put : (l w : List ℕ) → 8 ≤ length l → w ≡ word → Put l 0 word (w ++ drop 8 l)
+unfolding put
+word_put l w h e = record { fits = omega arith; is = ap (λ (x : List ℕ). x ++ drop 8 l) e }
 
 pub refused_wrote : {l m₁ m₂ m : List ℕ} {k₂ k n p : ℕ} (r : Refusal) → Put l 0 word m₁ → n ≡ number_of r → Wrote m₁ 8 (number n blank) m₂ k₂ 21 → p ≡ place_of r → Wrote m₂ k₂ (number p newline) m k 21 → Wrote l 0 (refused_line r) m k 50
 unfolding refused_line

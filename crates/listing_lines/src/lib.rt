@@ -62,10 +62,8 @@ fn put_vertices(
     ensures { Wrote text.old at (gather (vertex_line valences.now positions.now base) count) text.new result (count * 108) }
 {
     let mut end = at;
-    let mut j = 0;
-    while j < count {
+    for j in 0..count {
         end = put_vertex(text, end, valences, positions, base, j);
-        j += 1;
     }
     end
 }
@@ -90,18 +88,12 @@ pub fn put_level(
 }
 
 // The word that a refusal begins with, and a blank.
+#[tactic(auto, using(crate::proofs::LinesWritten::word_put))]
 fn put_word(text: &mut [u8])
     requires { 8 ≤ length text.old }
     ensures { Put text.old 0 word text.new }
 {
-    text[0] = b'r';
-    text[1] = b'e';
-    text[2] = b'f';
-    text[3] = b'u';
-    text[4] = b's';
-    text[5] = b'e';
-    text[6] = b'd';
-    text[7] = BLANK;
+    text[..8].copy_from_slice(b"refused ");
 }
 
 // The line of a refusal.

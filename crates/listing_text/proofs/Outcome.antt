@@ -13,14 +13,6 @@ use Rattle.rings.specs.Table.{Lent, lent, rows, gather, put}
 use Rattle.rings.specs.Verdict.{with_counts}
 use Rattle.rings.specs.declared.Refusal.{Refusal}
 use Rattle.rings.specs.declared.Refusal.TheVariants.{NoRoom}
-use Rattle.rings.specs.declared.Verdict.{Verdict}
-use Rattle.rings.specs.declared.Verdict.TheVariants.{Accepted, Refused}
-use Rattle.rings.specs.declared.Amount.{Amount}
-use Rattle.rings.specs.declared.Amount.TheVariants as amount
-use Rattle.rings.specs.declared.Amount.TheVariants.{Of}
-use Rattle.rings.specs.declared.Counted.{Counted}
-use Rattle.rings.specs.declared.Counted.TheVariants as counted
-use Rattle.rings.specs.declared.Counted.TheVariants.{Counts}
 use Rattle.stack_judge.specs.Stack.{stack_count}
 use Rattle.stack_judge.specs.StackVerdict.{stack_verdict}
 use Rattle.stack_judge.proofs.AcceptedStack.{stack_only}
@@ -30,6 +22,9 @@ use Rattle.file_reading.specs.Read.{read_answer, read_valences, read_rings, read
 use Rattle.numerals.specs.Wrote.{Wrote}
 use Rattle.listing_lines.specs.Lines.{counts_line, vertex_line, refused_line}
 use Rattle.listing_text.specs.Listing.{level_text, refined_text, mesh_text, file_text, listing_text}
+use Rattle.rings.specs.Refusal.{Amount, Counted, Verdict, counted}
+use Rattle.std.specs.Prelude.{Ok, Err}
+use Rattle.rings.proofs.Verdicts.{same_counts}
 
 -- a stack of one level has the control vertices and those of level 1
 one_level : (s : Sizes) → stack_count s 1 ≡ s.vertices + (s.vertices + s.edges)
@@ -38,47 +33,47 @@ one_level s = omega (arith, start_none s, start_suc s 0, start_suc s 1)
 
 module _ (n : ℕ) (t : Lent) (ps : List ℤ) (v e f : ℕ) where
   -- level 1 stands in the tables where refinement answers its counts
-  pub level_fits : Counts v e f ≡ refine_answer n 1 t ps → (n + v ≤ length t.valences) × ((n + v) * 3 ≤ length ps)
+  pub level_fits : counted v e f ≡ refine_answer n 1 t ps → (n + v ≤ length t.valences) × ((n + v) * 3 ≤ length ps)
   unfolding refine_answer with_counts rows
   level_fits h = go (stack_verdict n 1 t ps) refl h
     where
-      go : (w : Verdict) → stack_verdict n 1 t ps ≡ w → Counts v e f ≡ with_counts w (level (rows n t) 1).count (edges (level (rows n t) 1)) (faces (level (rows n t) 1))
+      go : (w : Verdict) → stack_verdict n 1 t ps ≡ w → counted v e f ≡ with_counts w (level (rows n t) 1).count (edges (level (rows n t) 1)) (faces (level (rows n t) 1))
           → (n + v ≤ length t.valences) × ((n + v) * 3 ≤ length ps)
-      go Accepted g h =
+      go (Ok u) g h =
           let a = stack_only n 1 t ps g in
-          let c : v ≡ (level (rows n t) 1).count = cc in
+          let c : v ≡ (level (rows n t) 1).count = (same_counts h).0 in
           let m : (rows n t).count ≡ n = refl in
           let d = level_count_lem (rows n t) a.control.sound 1 in
           let s = one_level (sizes_of n (rows n t)) in
           (omega (arith, a.room.valences), omega (arith, a.points))
-      go (Refused r) g h = let z : ◌≡◌ {A = ℕ} 0 1 = cc in absurd (omega arith)
+      go (Err r) g h = let z : ◌≡◌ {A = ℕ} 0 1 = cc in absurd (omega arith)
 
 -- ---- the text at each outcome
 
 -- refinement is refused, or answers the counts of level 1 and leaves these tables
-pub level_refused : (n : ℕ) (vs : List ℕ) (ps : List ℤ) {x y : Counted} {r : Refusal} → x ≡ counted.Refused r → x ≡ y → refused_line r ≡ level_text n vs ps y
+pub level_refused : (n : ℕ) (vs : List ℕ) (ps : List ℤ) {x y : Counted} {r : Refusal} → x ≡ Err r → x ≡ y → refused_line r ≡ level_text n vs ps y
 unfolding level_text
 level_refused n vs ps e f = ap (level_text n vs ps) (sym e ∙ f)
 
-pub level_counted : (n : ℕ) {vs₁ vs : List ℕ} {ps₁ ps : List ℤ} {x y : Counted} (v e f : ℕ) → x ≡ Counts v e f → x ≡ y → vs₁ ≡ vs → ps₁ ≡ ps
+pub level_counted : (n : ℕ) {vs₁ vs : List ℕ} {ps₁ ps : List ℤ} {x y : Counted} (v e f : ℕ) → x ≡ counted v e f → x ≡ y → vs₁ ≡ vs → ps₁ ≡ ps
     → counts_line 1 v e f ++ gather (vertex_line vs₁ ps₁ n) v ≡ level_text n vs ps y
 unfolding level_text
 level_counted n {vs₁} {vs} {ps₁} {ps} v e f a b g h =
-    ap (λ (l : List ℕ). level_text n l ps₁ (Counts v e f)) g ∙ ap (λ (l : List ℤ). level_text n vs l (Counts v e f)) h ∙ ap (level_text n vs ps) (sym a ∙ b)
+    ap (λ (l : List ℕ). level_text n l ps₁ (counted v e f)) g ∙ ap (λ (l : List ℤ). level_text n vs l (counted v e f)) h ∙ ap (level_text n vs ps) (sym a ∙ b)
 
 module _ (s : List ℕ) (t : Lent) (ps : List ℤ) where
   -- reading is refused, or answers V and leaves these tables
-  pub read_refused : {x : Amount} {r : Refusal} → x ≡ amount.Refused r → x ≡ read_answer s t ps → refused_line r ≡ file_text s t ps
+  pub read_refused : {x : Amount} {r : Refusal} → x ≡ Err r → x ≡ read_answer s t ps → refused_line r ≡ file_text s t ps
   unfolding file_text mesh_text
   read_refused e f = ap (mesh_text (lent (read_valences s t ps) (read_rings s t ps)) (read_positions s t ps)) (sym e ∙ f)
 
-  pub read_counted : {x : Amount} (n : ℕ) (t₁ : Lent) (ps₁ : List ℤ) → x ≡ Of n → x ≡ read_answer s t ps → t₁.valences ≡ read_valences s t ps → t₁.rings ≡ read_rings s t ps → ps₁ ≡ read_positions s t ps
+  pub read_counted : {x : Amount} (n : ℕ) (t₁ : Lent) (ps₁ : List ℤ) → x ≡ Ok n → x ≡ read_answer s t ps → t₁.valences ≡ read_valences s t ps → t₁.rings ≡ read_rings s t ps → ps₁ ≡ read_positions s t ps
       → refined_text n t₁ ps₁ ≡ file_text s t ps
   unfolding file_text mesh_text
   read_counted n t₁ ps₁ e f a b g =
-      ap (λ (l : List ℕ). mesh_text (lent l t₁.rings) ps₁ (Of n)) a
-      ∙ ap (λ (l : List ℕ). mesh_text (lent (read_valences s t ps) l) ps₁ (Of n)) b
-      ∙ ap (λ (l : List ℤ). mesh_text (lent (read_valences s t ps) (read_rings s t ps)) l (Of n)) g
+      ap (λ (l : List ℕ). mesh_text (lent l t₁.rings) ps₁ (Ok n)) a
+      ∙ ap (λ (l : List ℕ). mesh_text (lent (read_valences s t ps) l) ps₁ (Ok n)) b
+      ∙ ap (λ (l : List ℤ). mesh_text (lent (read_valences s t ps) (read_rings s t ps)) l (Ok n)) g
       ∙ ap (mesh_text (lent (read_valences s t ps) (read_rings s t ps)) (read_positions s t ps)) (sym e ∙ f)
 
 -- the input is too long, or not

@@ -10,7 +10,7 @@ ghost use Rattle.numerals.specs.Wrote.{Wrote};
 use file_reading::read;
 use listing_lines::{LEVEL, put_level, put_refused};
 use mesh::limits::{LISTING_BYTES, LISTING_COORDINATES, LISTING_PLACES, LISTING_VERTICES, Vertex};
-use rings::{Amount, Counted, Refusal};
+use rings::{Counts, Refusal};
 use stack_refine::refine;
 
 // Refines the control mesh one level, and writes that level or why it is refused.
@@ -26,8 +26,8 @@ fn put_refined(
     ensures { Wrote text.old 0 (refined_text count (lent valences.old rings.old) positions.old) text.new result 32768 }
 {
     match refine(valences, rings, positions, count, LEVEL) {
-        Counted::Refused(r) => put_refused(text, r),
-        Counted::Counts { v, e, f } => put_level(text, valences, positions, count, v, e, f),
+        Err(r) => put_refused(text, r),
+        Ok(Counts { v, e, f }) => put_level(text, valences, positions, count, v, e, f),
     }
 }
 
@@ -44,8 +44,8 @@ fn put_read(
     ensures { Wrote text.old 0 (file_text input.now (lent valences.old rings.old) positions.old) text.new result 32768 }
 {
     match read(input, valences, rings, positions) {
-        Amount::Refused(r) => put_refused(text, r),
-        Amount::Of(count) => put_refined(text, valences, rings, positions, count),
+        Err(r) => put_refused(text, r),
+        Ok(count) => put_refined(text, valences, rings, positions, count),
     }
 }
 

@@ -1,18 +1,15 @@
 -- Which places are done: none at first, one more, all places of one vertex more. Assumes nothing.
-use Prim.Native.Nat.{ℕ, suc, ◌+◌, ◌≤◌, ◌<◌}
-use mathlib.Core.Path.{◌≡◌, refl, sym, subst, ◌∙◌}
+use Prim.Native.Nat.{ℕ, suc, ◌+◌, ◌<◌}
+use mathlib.Core.Path.{◌≡◌, refl, sym, subst}
 use mathlib.Core.List.{List, [], ◌∷◌}
 use mathlib.Core.Logic.{◌⊎◌, inl, inr, ⊎_elim}
 use native.Mathlib.Omega.{arith}
 use lib.IntN.{ℤ, pos}
-use lib.ListN.{length, get_or, take}
-use lib.Seq.{take-suc}
-use native.Mathlib.Numerals.{add-one}
+use lib.ListN.{length, get_or}
 use borrow.Author.Tests.{lt-ltb, le-ltb}
 use Rattle.mesh.specs.Numbering.{below}
 use Rattle.mesh.specs.Mesh.{over}
 use Rattle.mesh.proofs.Lists.{lt_split}
-use Rattle.mesh.proofs.Ranks.{below_append}
 use Rattle.rings.specs.Table.{Lent}
 use Rattle.loop_halves.specs.Nearer.{Halves, Points, OnePlace, PlacesBelow, PlacesOfBelow, rings_next, positions_next}
 use Rattle.loop_halves.proofs.Nearing.{nearer_none}
@@ -46,16 +43,6 @@ pub points_at : {n : ℕ} {t : Lent} {ps new : List ℤ} (p : ℕ) {m k : ℕ} �
 points_at {n} {t} {ps} {new} p e h = subst (λ (x : ℕ). Points n t ps new (PlacesBelow p x)) e h
 
 -- ---- entries below a number
-
-module _ (q : ℕ) (l : List ℕ) (i : ℕ) (h : i < length l) where
-  below_one : below q (take (i + 1) l) ≡ below q (take i l) + below q (get_or l i 0 ∷ [])
-  below_one = rw (add-one i, take-suc l i 0) (below_append q (take i l) (get_or l i 0 ∷ []))
-
-  pub below_more : get_or l i 0 < q → below q (take (i + 1) l) ≡ below q (take i l) + 1
-  below_more a = below_one ∙ rw (lt-ltb (get_or l i 0) q a)
-
-  pub below_skip : q ≤ get_or l i 0 → below q (take (i + 1) l) ≡ below q (take i l)
-  below_skip a = below_one ∙ rw (le-ltb (get_or l i 0) q a) (omega arith)
 
 -- those below q are those up to p and those between
 pub below_over : (p q : ℕ) (l : List ℕ) → p < q → below q l ≡ below (suc p) l + below q (over p l)

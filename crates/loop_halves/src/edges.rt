@@ -68,10 +68,8 @@ pub fn write_halves(valences: &[u16], rings: &mut [Vertex], count: usize, p: usi
     requires n_value { n ≡ get_or valences.now p 0 }
     ensures { Halves count (lent valences.now rings.old) rings.new (PlacesBelow p n) }
 {
-    let mut k = 0;
-    while k < n {
+    for k in 0..n {
         write_half(valences, rings, count, p, n, k);
-        k += 1;
     }
 }
 
@@ -122,9 +120,7 @@ pub fn write_points(
     requires n_value { n ≡ get_or valences.now p 0 }
     ensures { Points count (lent valences.now rings.now) positions.old positions.new (PlacesBelow p n) }
 {
-    let mut k = 0;
-    while k < n {
+    for k in 0..n {
         write_point(valences, rings, positions, count, p, here, n, k);
-        k += 1;
     }
 }

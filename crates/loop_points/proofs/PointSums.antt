@@ -7,7 +7,7 @@ use native.Mathlib.Numerals.{add-one, add-two}
 use native.Mathlib.Omega.{arith}
 use lib.IntN.{ℤ, pos, sub_ℕ, ◌+ℤ◌, +ℤ_assoc, +ℤ_idl, +ℤ_idr}
 use lib.ListN.{length, get_or, take, drop, set}
-use lib.Seq.{take-suc, length-take-le, take_all, sets-eq}
+use lib.Seq.{take-suc, length-take-le, sets-eq}
 use mir.Syntax.{w32}
 use mir.Val.{to_z, of_z}
 use Rattle.mesh.specs.Limits.{most_units}
@@ -32,9 +32,6 @@ sum_append : (at : ℕ → ℤ) (l : List ℕ) (a : ℕ) → ring_sum at (l ++ (
 sum_append at [] a = +ℤ_idr (at a) ∙ sym (+ℤ_idl (at a))
 sum_append at (x ∷ l) a = ap (λ (z : ℤ). at x +ℤ z) (sum_append at l a) ∙ sym (+ℤ_assoc (at x) (ring_sum at l) (at a))
 
-pub sum_none : (at : ℕ → ℤ) (ring : List ℕ) → SumOf (take 0 ring) at 0
-sum_none at ring = record { sum = record { is = refl }; small = omega arith }
-
 module _ (at : ℕ → ℤ) (ring : List ℕ) where
   -- one vertex more
   sum_more : (i s u : ℕ) → i < length ring → SumOf (take i ring) at s → Is (at (get_or ring i 0)) u most_units → u ≤ (2 * most_units) → SumOf (take (i + 1) ring) at (s + u)
@@ -46,13 +43,6 @@ module _ (at : ℕ → ℤ) (ring : List ℕ) where
       let m : length (take i ring) * most_units + most_units ≡ length (take (i + 1) ring) * most_units = omega arith in
       let k : s ≤ length (take i ring) * (2 * most_units) = w.small in
       record { sum = record { is = ap (ring_sum at) e ∙ sum_append at (take i ring) (get_or ring i 0) ∙ p.is ∙ ap (sub_ℕ (s + u)) m }; small = omega arith }
-
-  pub sum_all : (i s : ℕ) → length ring ≤ i → SumOf (take i ring) at s → SumOf ring at s
-  sum_all i s h w = subst (λ (l : List ℕ). SumOf l at s) (take_all i ring h) w
-
-  -- a sum stays far below what a word holds
-  pub sum_small : (i s : ℕ) → i ≤ length ring → length ring ≤ 32 → SumOf (take i ring) at s → s ≤ 67108864
-  sum_small i s h k w = let a : length (take i ring) ≡ i = length-take-le i ring h in let l : s ≤ length (take i ring) * (2 * most_units) = w.small in omega arith
 
 -- ---- coordinates as the code reads them
 

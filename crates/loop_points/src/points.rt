@@ -24,13 +24,11 @@ pub fn ring_sums(ring: &[Vertex], positions: &[i32], count: usize) -> Sums
     let mut x: u32 = 0;
     let mut y: u32 = 0;
     let mut z: u32 = 0;
-    let mut i = 0;
-    while i < ring.len() {
-        let a = (ring[i] as usize) * 3;
+    for u in ring {
+        let a = *u as usize * 3;
         x += biased(positions[a]);
         y += biased(positions[a + 1]);
         z += biased(positions[a + 2]);
-        i += 1;
     }
     Sums { x, y, z }
 }
@@ -136,10 +134,7 @@ pub fn set_point(positions: &mut [i32], v: usize, point: Point)
     ensures { positions.new ≡ put positions.old (v * 3) (coordinates point) }
 {
     let a = v * 3;
-    let x = point.x;
-    let y = point.y;
-    let z = point.z;
-    positions[a] = x;
-    positions[a + 1] = y;
-    positions[a + 2] = z;
+    positions[a] = point.x;
+    positions[a + 1] = point.y;
+    positions[a + 2] = point.z;
 }

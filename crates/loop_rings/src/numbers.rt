@@ -10,18 +10,9 @@ pub fn rank(ring: &[Vertex], p: usize, q: usize) -> usize
     ensures value { result ≡ below q (over p ring.now) }
     ensures upper_bound { result ≤ length ring.now }
 {
-    let mut rank: usize = 0;
-    let mut i = 0;
-    while i < ring.len() {
-        let u = ring[i] as usize;
-        if p < u {
-            if u < q {
-                rank += 1;
-            }
-        }
-        i += 1;
-    }
-    rank
+    ring.iter()
+        .filter(|&&u| p < u as usize && (u as usize) < q)
+        .count()
 }
 
 // How many entries of a ring lie over p.
@@ -29,15 +20,7 @@ pub fn count_over(ring: &[Vertex], p: usize) -> usize
     ensures value { result ≡ length (over p ring.now) }
     ensures upper_bound { result ≤ length ring.now }
 {
-    let mut count: usize = 0;
-    let mut i = 0;
-    while i < ring.len() {
-        if p < ring[i] as usize {
-            count += 1;
-        }
-        i += 1;
-    }
-    count
+    ring.iter().filter(|&&u| p < u as usize).count()
 }
 
 // The place of the least entry over `last`, in a ring that has one.
@@ -49,16 +32,12 @@ pub fn place_over(ring: &[Vertex], last: usize) -> usize
 {
     let mut best: usize = PLACE_BOUND;
     let mut at: usize = 0;
-    let mut i = 0;
-    while i < ring.len() {
-        let u = ring[i] as usize;
-        if last < u {
-            if u < best {
-                best = u;
-                at = i;
-            }
+    for (i, &x) in ring.iter().enumerate() {
+        let u = x as usize;
+        if last < u && u < best {
+            best = u;
+            at = i;
         }
-        i += 1;
     }
     at
 }

@@ -2,12 +2,13 @@
 use Prim.Native.Nat.{ℕ, zero, suc, ◌+◌, ◌-◌, ◌*◌, ◌≤◌, ◌<◌}
 use mathlib.Core.Path.{◌≡◌, refl, sym, ap, subst, ◌∙◌}
 use mathlib.Core.List.{List, [], ◌∷◌, ◌++◌, append_assoc, append-nil}
-use native.Mathlib.Nat.{add-zero, zero-add}
+use native.Mathlib.Nat.{add-zero}
 use native.Mathlib.Numerals.{add-one}
 use native.Mathlib.Omega.{arith}
 use lib.IntN.{ℤ, pos}
-use lib.ListN.{length, get_or, take, set, replicate, length-replicate, replicate-append-replicate}
-use lib.Seq.{length-take-le}
+use lib.ListN.{length, get_or, take, drop, replicate, length-drop, length-replicate, replicate-append-replicate}
+use lib.Seq.{length-take-le, drop-drop}
+use borrow.Rule.Slice.PartMut.{put_mid}
 use Rattle.mesh.specs.Limits.{place_bound, null_vertex}
 use Rattle.mesh.specs.Mesh.{Mesh, Sound, edges, over}
 use Rattle.mesh.specs.Numbering.{below}
@@ -15,7 +16,6 @@ use Rattle.loop_step.specs.Refine.{mid, old_ring, refine}
 use Rattle.loop_step.proofs.Refined.{new_valence}
 use Rattle.rings.specs.Table.{Lent, lent, valence_at, put, gather, ring_of, rows, padded, valence_rows}
 use Rattle.rings.proofs.Tables.{put_more}
-use Rattle.rings.proofs.Blocks.{unused_none, unused_more}
 use Rattle.loop_points.specs.Level.{Ready, Levels, HasOld, UpTo, start_of, valences_up_to, rings_up_to, positions_up_to}
 use Rattle.loop_points.proofs.Mids.{ready_length, counted_mid}
 use Rattle.loop_points.proofs.Kept.{behind_ring}
@@ -81,15 +81,13 @@ old_end_at {n} {t} r p h m e k a {now} q b {last} z =
     let l : k ≤ valence_at t p = omega arith in
     old_end r h l q (omega arith) (subst (λ (x : ℕ). last ≡ put now ((n + p) * 32 + x) (replicate (32 - x) null_vertex)) e z)
 
--- ---- the same number written over and over
+-- ---- a part filled with one number
 
-pub same_none : (table : List ℕ) (first x : ℕ) → table ≡ put table first (replicate (first - first) x)
-same_none table first x = rw (zero-add first) at (unused_none table 0 first x)
-
-pub same_more : (table : List ℕ) (first k x : ℕ) {now : List ℕ} → now ≡ put table first (replicate (k - first) x) → first ≤ k → k < length table → set now k x ≡ put table first (replicate (k + 1 - first) x)
-same_more table first k x {now} q h l =
-    let q' : now ≡ put table (0 + first) (replicate (k - first) x) = rw (zero-add first) q in
-    rw (zero-add first, zero-add k) at (unused_more table 0 first k x q' h (omega arith))
+pub part_filled : (table : List ℕ) (a e x : ℕ) → e ≤ length table → {part : List ℕ} → part ≡ replicate (length (take (e - a) (drop a table))) x → put_mid a (e - a) table part ≡ put table a (replicate (e - a) x)
+unfolding put
+part_filled table a e x h {part} q =
+    let w : length (take (e - a) (drop a table)) ≡ e - a = length-take-le (e - a) (drop a table) (omega (arith, length-drop a table)) in
+    rw (q, w, length-replicate, drop-drop)
 
 -- ---- the whole level, from the tables with its old vertices or from the first ones, is the same
 

@@ -5,20 +5,12 @@ ghost use Rattle.mesh.specs.Ring.{◌∈◌, place};
 
 use mesh::limits::Vertex;
 
-// How many entries of a ring lie below q.
+// How many entries of a ring lie below q: a sum of bits, as that is one plain loop where the count of a filter is a loop in a loop.
 pub fn count_below(ring: &[Vertex], q: Vertex) -> usize
     ensures value { result ≡ below q ring.now }
     ensures upper_bound { result ≤ length ring.now }
 {
-    let mut count: usize = 0;
-    let mut i = 0;
-    while i < ring.len() {
-        if ring[i] < q {
-            count += 1;
-        }
-        i += 1;
-    }
-    count
+    ring.iter().map(|&u| usize::from(u < q)).sum()
 }
 
 // The place of x in a ring that has it.
@@ -27,6 +19,7 @@ pub fn seek_known(ring: &[Vertex], x: Vertex) -> usize
     ensures { result ≡ place x ring.now }
 {
     let mut i = 0;
+    // A `while`, as a `for` or a search would ask at each place whether the ring ends there.
     while ring[i] != x {
         i += 1;
     }

@@ -60,10 +60,8 @@ pub fn write_old_ring(
     ensures { rings.new ≡ put rings.old ((count + p) * most_valence) (padded (old_ring (rows count (lent valences.now rings.old)) p)) }
 {
     let a = (count + p) * MOST_VALENCE;
-    let mut k = 0;
-    while k < n {
+    for k in 0..n {
         rings[a + k] = middle_of(valences, rings, count, p, n, start, low, k) as Vertex;
-        k += 1;
     }
     write_unused(rings, count + p, n);
 }

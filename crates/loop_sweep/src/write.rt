@@ -63,11 +63,9 @@ fn write_old(
     ensures positions_after { positions.new ≡ positions_up_to count count (lent valences.old rings.old) positions.old }
 {
     let mut start: usize = 0;
-    let mut p = 0;
-    while p < count {
+    for p in 0..count {
         start = write_vertex(valences, rings, positions, count, p, start);
         valences[count + p] = valences[p];
-        p += 1;
     }
     start
 }
@@ -104,10 +102,8 @@ fn write_new(valences: &[u16], rings: &mut [Vertex], positions: &mut [i32], coun
     ensures rings_after { rings.new ≡ rings_up_to count (count + edges (rows count (lent valences.now rings.old))) (lent valences.now rings.old) }
     ensures positions_after { positions.new ≡ positions_up_to count (count + edges (rows count (lent valences.now rings.old))) (lent valences.now rings.old) positions.old }
 {
-    let mut p = 0;
-    while p < count {
+    for p in 0..count {
         write_around(valences, rings, positions, count, p);
-        p += 1;
     }
 }
 
@@ -117,11 +113,7 @@ fn write_sixes(valences: &mut [u16], first: usize, end: usize)
     requires end_in_bounds { end ≤ length valences.old }
     ensures { valences.new ≡ put valences.old first (replicate (end - first) 6) }
 {
-    let mut k = first;
-    while k < end {
-        valences[k] = 6;
-        k += 1;
-    }
+    valences[first..end].fill(6);
 }
 
 // Writes the next level: V + E vertices, the old ones first, then the edges' by p and then by q.

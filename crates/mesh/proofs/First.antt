@@ -93,9 +93,6 @@ some_not p {n} {i} e l = le-ltb (first p n) n (omega arith)
 pub some_is : {p : ℕ → Bool} {n i : ℕ} → Clear p i → i < n → p i ≡ true → true ≡ some p n
 some_is {p} all l here = sym (some_lt p (first_is all l here) l)
 
-pub some_end : {p : ℕ → Bool} {n i : ℕ} → Clear p i → i ≤ n → n ≤ i → false ≡ some p n
-some_end {p} all a b = sym (some_not p (first_end all a b) b)
-
 -- a search that found none passed every number
 pub some_all : (p : ℕ → Bool) (n : ℕ) → some p n ≡ false → Clear p n
 unfolding some

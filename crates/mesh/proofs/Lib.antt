@@ -11,6 +11,7 @@ pub mod Edges
 pub mod SoundMeshes
 pub mod Faces
 pub mod Places
+pub mod Searches
 pub mod Checked
 pub mod Ranks
 pub mod Overs

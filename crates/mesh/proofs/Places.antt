@@ -9,13 +9,13 @@ use native.Mathlib.Nat.{not-suc-le-zero, le_antisymm}
 use native.Mathlib.Omega.{arith}
 use lib.Dec.{eqb, ltb}
 use lib.ListN.{length, get_or}
-use borrow.Author.Tests.{eq-eqb, ne_eqb, eqb-true, eqb-false, lt-ltb, ltb-true, ltb-false, le-leb, lt-leb, leb-false}
+use borrow.Author.Tests.{eq-eqb, ne_eqb, eqb-true, eqb-false, lt-ltb, ltb-true, ltb-false, leb-false}
 use Rattle.mesh.specs.Ring.{times, ◌∈◌, has, place, place_of, place_after, place_before, next, prev, Follows, follows}
 use Rattle.mesh.specs.Tests.{repeat_at, bad_at}
-use Rattle.mesh.specs.declared.Place.TheVariants.{At, Absent}
 use Rattle.mesh.proofs.Lists.{eq_split, lt_split, there}
 use Rattle.mesh.proofs.First.{Clear, or_false, true_not_false}
 use Rattle.mesh.proofs.Rings.{place_lt, get_or_place}
+use Rattle.std.specs.declared.option.Option.TheVariants.{Some, None}
 
 -- x stands at place i: what a search tests
 abbrev pub holds : List ℕ → ℕ → ℕ → Bool
@@ -91,11 +91,11 @@ module _ (x : ℕ) (l : List ℕ) (i : ℕ) (e : i ≡ place x l) where
   pub has_test : ltb i (length l) ≡ has x l
   has_test = ⊎_elim (λ q. q.0 ∙ sym (has_yes q.1)) (λ q. q.0 ∙ sym (has_no q.1)) (lt_split i (length l))
 
-  pub place_of_at : i < length l → At i ≡ place_of x l
+  pub place_of_at : i < length l → Some i ≡ place_of x l
   unfolding place_of
   place_of_at h = rw (has_yes h, ← e)
 
-  pub place_of_absent : length l ≤ i → Absent ≡ place_of x l
+  pub place_of_absent : length l ≤ i → None ≡ place_of x l
   unfolding place_of
   place_of_absent h = rw (has_no h)
 
@@ -115,19 +115,19 @@ module _ (x : ℕ) (l : List ℕ) (i : ℕ) (e : i ≡ place x l) where
   unfolding follows
   follows_absent y h = rw (has_no h)
 
-pub placed : (x : ℕ) (l : List ℕ) (i : ℕ) → At i ≡ place_of x l → (has x l ≡ true) × (i ≡ place x l) × (i < length l)
+pub placed : (x : ℕ) (l : List ℕ) (i : ℕ) → Some i ≡ place_of x l → (has x l ≡ true) × (i ≡ place x l) × (i < length l)
 unfolding place_of
 placed x l i e = go (has x l) refl e
   where
-    go : (b : Bool) → has x l ≡ b → At i ≡ cond b (At (place x l)) Absent → (has x l ≡ true) × (i ≡ place x l) × (i < length l)
+    go : (b : Bool) → has x l ≡ b → Some i ≡ cond b (Some (place x l)) None → (has x l ≡ true) × (i ≡ place x l) × (i < length l)
     go true h q = let p : i ≡ place x l = cc in (h, p, let k = place_lt x l (has_in x l h) in omega arith)
     go false h q = absurd (let z : ◌≡◌ {A = ℕ} 0 1 = cc in omega arith)
 
-pub absent : (x : ℕ) (l : List ℕ) → Absent ≡ place_of x l → has x l ≡ false
+pub absent : (x : ℕ) (l : List ℕ) → None ≡ place_of x l → has x l ≡ false
 unfolding place_of
 absent x l e = go (has x l) refl e
   where
-    go : (b : Bool) → has x l ≡ b → Absent ≡ cond b (At (place x l)) Absent → has x l ≡ false
+    go : (b : Bool) → has x l ≡ b → None ≡ cond b (Some (place x l)) None → has x l ≡ false
     go true h q = absurd (let z : ◌≡◌ {A = ℕ} 0 1 = cc in omega arith)
     go false h q = h
 
@@ -146,18 +146,6 @@ true_follows l x y f = rw (in_has x l f.0) (eq-eqb (next l x) y f.1)
 -- ---- a bad place
 
 module _ (n v : ℕ) (l : List ℕ) (i : ℕ) where
-  pub bad_vertex_lem : n ≤ get_or l i 0 → true ≡ bad_at n v l i
-  unfolding bad_at
-  bad_vertex_lem h = rw (le-leb n (get_or l i 0) h)
-
-  pub bad_self : get_or l i 0 < n → get_or l i 0 ≡ v → true ≡ bad_at n v l i
-  unfolding bad_at
-  bad_self h e = rw (lt-leb n (get_or l i 0) h, eq-eqb (get_or l i 0) v e)
-
-  pub bad_repeat : get_or l i 0 < n → (get_or l i 0 ≡ v → ⊥) → (k : ℕ) → k ≡ place (get_or l i 0) l → ltb k i ≡ bad_at n v l i
-  unfolding bad_at repeat_at
-  bad_repeat h d k e = rw (lt-leb n (get_or l i 0) h, ne_eqb (get_or l i 0) v d, e)
-
   pub bad_false : bad_at n v l i ≡ false → (get_or l i 0 < n) × (get_or l i 0 ≡ v → ⊥) × (i ≤ place (get_or l i 0) l)
   unfolding bad_at repeat_at
   bad_false e =

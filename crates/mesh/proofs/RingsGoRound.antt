@@ -9,10 +9,10 @@ use native.Mathlib.Omega.{arith}
 use lib.ListN.{length, get_or}
 use borrow.Author.Tests.{eq-eqb, ne_eqb, ltb-false}
 use Rattle.mesh.specs.Ring.{times, ◌∈◌, has, Distinct, place, place_of, place_after, place_before, next, prev}
-use Rattle.mesh.specs.declared.Place.TheVariants.{At, Absent}
 use Rattle.mesh.proofs.Lists.{eq_split, lt_split}
 use Rattle.mesh.proofs.Rings.{place_lt, get_or_place, place_get_or, after_lt, next_at, prev_at, next_get_or, next_prev}
 use Rattle.mesh.proofs.Places.{in_place, placed, absent, has_in, place_of_at, place_of_absent}
+use Rattle.std.specs.declared.option.Option.TheVariants.{Some, None}
 
 -- ---- a ring of one has itself as both
 
@@ -71,7 +71,7 @@ module _ (l : List ℕ) (o : Distinct l) where
 -- ---- there, or absent by name
 
 module _ (x : ℕ) (l : List ℕ) where
-  pub absent_by_name : (place_of x l ≡ Absent) ↔ (x ∈ l → ⊥)
+  pub absent_by_name : (place_of x l ≡ None) ↔ (x ∈ l → ⊥)
   unfolding has
   absent_by_name = (
     (λ e m. let a : times x l ≤ 0 = ltb-false 0 (times x l) (absent x l (sym e)) in omega arith),
@@ -81,7 +81,7 @@ module _ (x : ℕ) (l : List ℕ) where
       not_there : (x ∈ l → ⊥) → length l ≤ place x l
       not_there n = ⊎_elim (λ h. absurd (n (in_place x l h.1))) (λ h. h.1) (lt_split (place x l) (length l))
 
-  pub placed_by_name : Distinct l → (i : ℕ) → (place_of x l ≡ At i) ↔ ((i < length l) × (get_or l i 0 ≡ x))
+  pub placed_by_name : Distinct l → (i : ℕ) → (place_of x l ≡ Some i) ↔ ((i < length l) × (get_or l i 0 ≡ x))
   placed_by_name o i = (
     (λ e. let p = placed x l i (sym e) in (p.2, ap (λ k. get_or l k 0) p.1 ∙ get_or_place x l 0 (has_in x l p.0))),
     (λ e. sym (place_of_at x l i (sym (place_get_or l i 0 o e.0) ∙ ap (λ y. place y l) e.1) e.0)),

@@ -4,8 +4,8 @@
 -- Assumes nothing.
 use Rattle.std.specs.Prelude.{◌≡◌, Bool, cond, ◌&&◌, List, [], ◌∷◌, ◌++◌, ℕ, suc, ◌+◌, ◌-◌, ◌≤◌, ◌<◌, eqb, ltb, length, get_or, take, drop}
 use Rattle.mesh.specs.Search.{bit}
-use Rattle.mesh.specs.declared.Place.{Place}
-use Rattle.mesh.specs.declared.Place.TheVariants.{At, Absent}
+use Rattle.std.specs.declared.option.Option.{Option}
+use Rattle.std.specs.declared.option.Option.TheVariants.{Some, None}
 
 -- how often x stands in the list
 abbrev pub times : ℕ → List ℕ → ℕ
@@ -31,8 +31,8 @@ place x [] = 0
 place x (a ∷ l) = cond (eqb x a) 0 (suc (place x l))
 
 -- the place of x, or its absence by name
-unfoldable pub place_of : ℕ → List ℕ → Place
-place_of x l = cond (has x l) (At (place x l)) Absent
+unfoldable pub place_of : ℕ → List ℕ → Option ℕ
+place_of x l = cond (has x l) (Some (place x l)) None
 
 -- the place after place i of a circular list of n
 unfoldable pub place_after : ℕ → ℕ → ℕ

@@ -2,10 +2,3 @@
 #![tactic(auto)]
 
 pub mod limits;
-
-// Where an entry stands in a ring, or that it is absent.
-#[derive(Clone, Copy)]
-pub enum Place {
-    At(usize),
-    Absent,
-}

@@ -7,6 +7,7 @@ use Prim.Native.Nat.{ℕ, zero, suc, ◌+◌, ◌-◌, ◌*◌, ◌≤◌, ◌<�
 use native.Mathlib.Nat.{le_trans, le_of_eq, mul-pos, mul-one, mul_right_comm, mul-le-mul_right, le_of_mul-le-mul_right, zero-mul}
 use native.Mathlib.Omega.{arith}
 use borrow.Author.Tests.{lt-ltb, le-ltb, ltb-false, eq-eqb}
+use Rattle.std.proofs.Common.{Ok}
 use lib.Dec.{ltb, eqb, lit<}
 use lib.IntN.{ℤ, pos, negsuc, nat_abs}
 use lib.Signed.{non_neg}
@@ -19,7 +20,6 @@ use Rattle.millimetres.specs.declared.Mm.{Mm}
 use Rattle.units.specs.declared.Point.{Point}
 use Rattle.millimetres.specs.declared.Change.{Change}
 use Rattle.millimetres.specs.declared.Change.TheVariants.{Place, Shift, Stretch}
-use Rattle.millimetres.specs.declared.Moved.TheVariants.{At}
 use Rattle.units.specs.Coordinate.{InRange}
 use Rattle.millimetres.specs.Millimetres.{inside, mm_unit, mm_of}
 use Rattle.millimetres.specs.Move.{fit, changed_by, settled_at, moved_to}
@@ -141,16 +141,16 @@ mm_times_one z h = times_one (mm_unit z) (not (non_neg z)) (nat_abs z) units_in_
 -- ---- a move whose result is the point's own millimetres
 
 module _ (p : Point) (hx : InRange p.x) (hy : InRange p.y) (hz : InRange p.z) where
-  settled_there : settled_at (mm_of p) ≡ At p
+  settled_there : settled_at (mm_of p) ≡ Ok p
   settled_there =
       settled_by (mm_of p) true
       (all_three (inside (mm_unit p.x)) (inside (mm_unit p.y)) (inside (mm_unit p.z)) (mm_inside p.x hx) (mm_inside p.y hy) ∙ mm_inside p.z hz)
-      ∙ ap At (point_is _ _ _ _ _ _ (mm_back p.x hx) (mm_back p.y hy) (mm_back p.z hz))
+      ∙ ap Ok (point_is _ _ _ _ _ _ (mm_back p.x hx) (mm_back p.y hy) (mm_back p.z hz))
 
-  stays : (q : Mm) (c : Change) → fit c ≡ true → changed_by q c ≡ mm_of p → moved_to q c ≡ At p
+  stays : (q : Mm) (c : Change) → fit c ≡ true → changed_by q c ≡ mm_of p → moved_to q c ≡ Ok p
   stays q c f e = moved_by q c true f ∙ ap settled_at e ∙ settled_there
 
-  pub placed_at_itself : (q : Mm) → moved_to q (Place (mm_unit p.x) (mm_unit p.y) (mm_unit p.z)) ≡ At p
+  pub placed_at_itself : (q : Mm) → moved_to q (Place (mm_unit p.x) (mm_unit p.y) (mm_unit p.z)) ≡ Ok p
   unfolding fit
   placed_at_itself q =
       stays q (Place (mm_unit p.x) (mm_unit p.y) (mm_unit p.z))
@@ -158,13 +158,13 @@ module _ (p : Point) (hx : InRange p.x) (hy : InRange p.y) (hz : InRange p.z) wh
       refl
 
   -- the zeros may have either sign
-  pub shifted_by_zero : (s t u : Bool) → moved_to (mm_of p) (Shift (fin s 0 (pos 0)) (fin t 0 (pos 0)) (fin u 0 (pos 0))) ≡ At p
+  pub shifted_by_zero : (s t u : Bool) → moved_to (mm_of p) (Shift (fin s 0 (pos 0)) (fin t 0 (pos 0)) (fin u 0 (pos 0))) ≡ Ok p
   unfolding fit
   shifted_by_zero s t u =
       stays (mm_of p) (Shift (fin s 0 (pos 0)) (fin t 0 (pos 0)) (fin u 0 (pos 0))) refl
       (mm_is _ _ _ _ _ _ (mm_plus_zero p.x s hx) (mm_plus_zero p.y t hy) (mm_plus_zero p.z u hz))
 
-  pub stretched_by_one : moved_to (mm_of p) (Stretch (fin false 1 (pos 0)) (fin false 1 (pos 0)) (fin false 1 (pos 0))) ≡ At p
+  pub stretched_by_one : moved_to (mm_of p) (Stretch (fin false 1 (pos 0)) (fin false 1 (pos 0)) (fin false 1 (pos 0))) ≡ Ok p
   unfolding fit
   stretched_by_one =
       stays (mm_of p) (Stretch (fin false 1 (pos 0)) (fin false 1 (pos 0)) (fin false 1 (pos 0))) refl

@@ -1,7 +1,7 @@
 -- To be believed.
 -- Millimetres as 64-bit floats, and units (section "Moves"): which floats are in range, what they are in units, and what units are in millimetres.
 -- Assumes nothing.
-use Rattle.std.specs.Prelude.{Bool, true, false, cond, not, ◌&&◌, ℕ, ◌+◌, ◌-◌, ◌*◌, ℤ, pos, neg_ℤ, nat_abs, Float}
+use Rattle.std.specs.Prelude.{Bool, true, false, cond, not, ◌&&◌, ℕ, ◌+◌, ◌-◌, ◌*◌, ℤ, pos, neg_ℤ, nat_abs, Float, Option, Some, None}
 use Rattle.std.specs.Int.Signed.{non_neg}
 use Rattle.std.specs.Float.{nan, inf, fin, binary64}
 use Rattle.std.specs.Float.Ieee.{up, down, le, round}
@@ -9,8 +9,6 @@ use Rattle.mesh.specs.Limits.{low_millimetres, high_millimetres, units_in_millim
 use Rattle.steps.specs.Round.{rounded}
 use Rattle.units.specs.declared.Point.{Point}
 use Rattle.millimetres.specs.declared.Mm.{Mm}
-use Rattle.millimetres.specs.declared.UnitsAnswer.{UnitsAnswer}
-use Rattle.millimetres.specs.declared.UnitsAnswer.TheVariants.{Units, ControlCoordinate}
 
 -- ±k, by a sign as a float has it: true is negative
 abbrev pub signed : Bool → ℕ → ℤ
@@ -33,8 +31,8 @@ units_of (inf s) = pos 0
 units_of (fin s m e) = rounded (signed s (m * up e * units_in_millimetre)) (down e)
 
 -- the units of a float, or that it is too far
-unfoldable pub units_answer : Float → UnitsAnswer
-units_answer x = cond (inside x) (Units (units_of x)) ControlCoordinate
+unfoldable pub units_answer : Float → Option ℤ
+units_answer x = cond (inside x) (Some (units_of x)) None
 
 -- z units: the float nearest to z / 1,024, which for a coordinate is that fraction itself
 unfoldable pub mm_unit : ℤ → Float

@@ -1,7 +1,7 @@
 -- To be believed.
 -- One move of one point (section "Moves", refusals 13 and 14).
 -- Assumes nothing.
-use Rattle.std.specs.Prelude.{Bool, cond, ◌&&◌}
+use Rattle.std.specs.Prelude.{Bool, cond, ◌&&◌, Result, Ok, Err}
 use Rattle.std.specs.Float.{binary64}
 use Rattle.std.specs.Float.Ieee.{add, mul}
 use Rattle.std.specs.Float.Ieee.Scale.{finite}
@@ -9,8 +9,9 @@ use Rattle.millimetres.specs.Millimetres.{inside, units_of}
 use Rattle.millimetres.specs.declared.Mm.{Mm}
 use Rattle.millimetres.specs.declared.Change.{Change}
 use Rattle.millimetres.specs.declared.Change.TheVariants.{Place, Shift, Stretch}
-use Rattle.millimetres.specs.declared.Moved.{Moved}
-use Rattle.millimetres.specs.declared.Moved.TheVariants.{At, NotFinite, OutOfReach}
+use Rattle.units.specs.declared.Point.{Point}
+use Rattle.millimetres.specs.declared.Unmoved.{Unmoved}
+use Rattle.millimetres.specs.declared.Unmoved.TheVariants.{NotFinite, OutOfReach}
 
 -- the three numbers of a move
 abbrev pub numbers_of : Change → Mm
@@ -29,9 +30,10 @@ changed_by p (Shift x y z) = record { x = add binary64 p.x x; y = add binary64 p
 changed_by p (Stretch x y z) = record { x = mul binary64 p.x x; y = mul binary64 p.y y; z = mul binary64 p.z z }
 
 -- the result in units, or 14 where a coordinate is out of range
-unfoldable pub settled_at : Mm → Moved
-settled_at m = cond (inside m.x && inside m.y && inside m.z) (At (record { x = units_of m.x; y = units_of m.y; z = units_of m.z })) OutOfReach
+unfoldable pub settled_at : Mm → Result Point Unmoved
+settled_at m =
+    cond (inside m.x && inside m.y && inside m.z) (Ok (record { x = units_of m.x; y = units_of m.y; z = units_of m.z })) (Err OutOfReach)
 
 -- one move: 13 looks at all three numbers before 14 looks at a result
-unfoldable pub moved_to : Mm → Change → Moved
-moved_to p c = cond (fit c) (settled_at (changed_by p c)) NotFinite
+unfoldable pub moved_to : Mm → Change → Result Point Unmoved
+moved_to p c = cond (fit c) (settled_at (changed_by p c)) (Err NotFinite)

@@ -7,7 +7,7 @@ ghost use Rattle.steps.specs.Round.{rounded};
 ghost use Rattle.units.specs.Coordinate.{InRange};
 ghost use Rattle.millimetres.specs.Millimetres.{signed, toward, inside, units_of, units_answer, mm_of};
 
-use super::{MILLIMETRES_IN_UNIT, Mm, UnitsAnswer};
+use super::{MILLIMETRES_IN_UNIT, Mm};
 use mesh::limits::{HIGH_MILLIMETRES, LOW_MILLIMETRES};
 use units::Point;
 use units::points::{difference, nearest};
@@ -34,9 +34,10 @@ fn lifted(negative: bool, digits: u64) -> u64
     ensures { result ≡ toward negative (2 ^ 54) digits }
 {
     if negative {
-        return LIFT - digits;
+        LIFT - digits
+    } else {
+        LIFT + digits
     }
-    LIFT + digits
 }
 
 // ±digits / 2^shift, rounded.
@@ -66,16 +67,15 @@ fn units_of_bits(bits: u64) -> i32
     scaled(negative, LEADING + digits, UNIT_FIELD - field)
 }
 
-// x millimetres in units: the exact value, rounded.
-pub fn units_of(x: f64) -> UnitsAnswer
+// x millimetres in units: the exact value, rounded; None where x is out of range.
+pub fn units_of(x: f64) -> Option<i32>
     ensures { result ≡ units_answer x }
 {
-    if x >= LOW_MILLIMETRES {
-        if x <= HIGH_MILLIMETRES {
-            return UnitsAnswer::Units(units_of_bits(f64::to_bits(x)));
-        }
+    if x >= LOW_MILLIMETRES && x <= HIGH_MILLIMETRES {
+        Some(units_of_bits(f64::to_bits(x)))
+    } else {
+        None
     }
-    UnitsAnswer::ControlCoordinate
 }
 
 // A point of units in millimetres, without loss.

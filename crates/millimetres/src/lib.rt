@@ -7,7 +7,6 @@ pub mod moves;
 // What the crates above call.
 pub use floats::mm_of;
 pub use moves::moved_point;
-use units::Point;
 
 // One unit.
 pub const MILLIMETRES_IN_UNIT: f64 = 0.0009765625;
@@ -29,17 +28,9 @@ pub enum Change {
     Stretch(f64, f64, f64),
 }
 
-// What a move answers: where the point is now, or why not (13, 14).
-#[derive(Clone, Copy)]
-pub enum Moved {
-    At(Point),
+// Why a point was not moved (13, 14).
+#[derive(Clone, Copy, PartialEq, Eq, Debug)]
+pub enum Unmoved {
     NotFinite,
     OutOfReach,
-}
-
-// What a float is in units.
-#[derive(Clone, Copy)]
-pub enum UnitsAnswer {
-    Units(i32),
-    ControlCoordinate,
 }

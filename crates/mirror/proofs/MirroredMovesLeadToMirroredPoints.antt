@@ -1,6 +1,7 @@
 -- A move and its mirror image (document 02, order 3): from a point and from its mirror image, a placing or shift with its x negated, or a
 -- stretch as it is, leads to mirrored points in units, or is refused alike.
 -- Assumes nothing.
+use Rattle.std.proofs.Common.{Ok, Err}
 use mathlib.Core.Path.{◌≡◌, refl}
 use mathlib.Core.Bool.{Bool, true, false, cond, ◌&&◌}
 use lib.IntN.{neg_ℤ}
@@ -11,7 +12,7 @@ use Rattle.millimetres.specs.Move.{fit, changed_by, settled_at, moved_to}
 use Rattle.mirror.specs.MirroredMove.{mirrored_change, mirrored_point, mirrored_moved}
 use Rattle.millimetres.specs.declared.Change.{Change}
 use Rattle.millimetres.specs.declared.Change.TheVariants.{Place, Shift, Stretch}
-use Rattle.millimetres.specs.declared.Moved.TheVariants.{At, NotFinite, OutOfReach}
+use Rattle.millimetres.specs.declared.Unmoved.TheVariants.{NotFinite, OutOfReach}
 use Rattle.mirror.proofs.Opposed.{Opposed, neg_opposed, add_opposed, mul_opposed, mm_opposed, units_opposed, inside_opposed}
 
 -- points in millimetres with opposed x and the same y and z
@@ -21,8 +22,8 @@ unfolding settled_at
 settled_mirrored x x' y z o = rw (inside_opposed x x' o, units_opposed x x' o) (go (inside x && inside y && inside z))
   where
     go : (b : Bool)
-        → cond b (At (record { x = neg_ℤ (units_of x); y = units_of y; z = units_of z })) OutOfReach
-        ≡ mirrored_moved (cond b (At (record { x = units_of x; y = units_of y; z = units_of z })) OutOfReach)
+        → cond b (Ok (record { x = neg_ℤ (units_of x); y = units_of y; z = units_of z })) (Err OutOfReach)
+        ≡ mirrored_moved (cond b (Ok (record { x = units_of x; y = units_of y; z = units_of z })) (Err OutOfReach))
     go true = refl
     go false = refl
 
@@ -55,6 +56,6 @@ unfolding moved_to
 mirrored_move_lem p c = rw (fit_mirrored c, changed_mirrored p c) (go (fit c))
   where
     go : (b : Bool)
-        → cond b (mirrored_moved (settled_at (changed_by (mm_of p) c))) NotFinite ≡ mirrored_moved (cond b (settled_at (changed_by (mm_of p) c)) NotFinite)
+        → cond b (mirrored_moved (settled_at (changed_by (mm_of p) c))) (Err NotFinite) ≡ mirrored_moved (cond b (settled_at (changed_by (mm_of p) c)) (Err NotFinite))
     go true = refl
     go false = refl

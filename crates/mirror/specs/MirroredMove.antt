@@ -1,13 +1,12 @@
 -- To be believed.
 -- The mirrored point and the mirrored move (document 02, order 3): a placing or a shift with its x negated, a stretch as it is.
 -- Assumes nothing.
-use Rattle.std.specs.Prelude.{neg_ℤ}
+use Rattle.std.specs.Prelude.{neg_ℤ, Result, Ok, Err}
 use Rattle.std.specs.Float.Ieee.{neg}
 use Rattle.units.specs.declared.Point.{Point}
 use Rattle.millimetres.specs.declared.Change.{Change}
 use Rattle.millimetres.specs.declared.Change.TheVariants.{Place, Shift, Stretch}
-use Rattle.millimetres.specs.declared.Moved.{Moved}
-use Rattle.millimetres.specs.declared.Moved.TheVariants.{At, NotFinite, OutOfReach}
+use Rattle.millimetres.specs.declared.Unmoved.{Unmoved}
 
 abbrev pub mirrored_change : Change → Change
 mirrored_change (Place x y z) = Place (neg x) y z
@@ -19,7 +18,6 @@ abbrev pub mirrored_point : Point → Point
 mirrored_point p = record { x = neg_ℤ p.x; y = p.y; z = p.z }
 
 -- where a move leads, mirrored; a refusal stays
-abbrev pub mirrored_moved : Moved → Moved
-mirrored_moved (At p) = At (mirrored_point p)
-mirrored_moved NotFinite = NotFinite
-mirrored_moved OutOfReach = OutOfReach
+abbrev pub mirrored_moved : Result Point Unmoved → Result Point Unmoved
+mirrored_moved (Ok p) = Ok (mirrored_point p)
+mirrored_moved (Err e) = Err e

@@ -17,12 +17,12 @@ use Rattle.mirror.specs.Mirror.{mirror}
 use Rattle.rings.specs.Table.{Lent, lent, valence_at, gather, put, ring_of, rows, padded, ring_rows, coordinate_at}
 use Rattle.rings.specs.Check.{check_verdict}
 use Rattle.rings.specs.Accepts.{HasRow, Accepts}
-use Rattle.rings.specs.declared.Verdict.TheVariants.{Accepted}
 use Rattle.rings.proofs.Tables.{length_put, put_within, length_gather, gather_at, length_padded}
 use Rattle.rings.proofs.Blocks.{padded_at}
 use Rattle.rings.proofs.Rows.{row_length, room_row}
 use Rattle.rings.proofs.Accepted.{accepted_only}
 use Rattle.mirror_pair.specs.Pair.{MirroredTables, image_rings, image_point, image_positions}
+use Rattle.std.specs.Prelude.{Ok}
 
 -- a table whose first n blocks of k items are written
 module _ {A : Type 0} (f : ℕ → List A) (k : ℕ) (even : (v : ℕ) → length (f v) ≡ k)
@@ -42,7 +42,7 @@ module _ {A : Type 0} (f : ℕ → List A) (k : ℕ) (even : (v : ℕ) → lengt
       before : length (gather f n) ≡ n * k → v * k + i < length (gather f n)
       before e = let m : suc v * k ≤ n * k = mul-le-mul_right k h in omega (arith, suc-mul v k)
 
-module _ (n : ℕ) (t : Lent) (ps : List ℤ) (accepted : check_verdict n t ps ≡ Accepted) where
+module _ (n : ℕ) (t : Lent) (ps : List ℤ) (accepted : check_verdict n t ps ≡ (Ok tt)) where
   a : Accepts n t ps
   a = accepted_only n t ps accepted
 

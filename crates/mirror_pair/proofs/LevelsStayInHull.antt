@@ -8,13 +8,13 @@ use lib.IntN.{ℤ}
 use Rattle.steps.proofs.Hull.{Within}
 use Rattle.loop_step.proofs.PointsStayInHull.{points_stay_in_hull}
 use Rattle.rings.specs.Table.{lent, Lent, rows, coordinate_at}
-use Rattle.rings.specs.declared.Verdict.TheVariants.{Accepted}
 use Rattle.stack_judge.specs.StackVerdict.{stack_verdict}
 use Rattle.stack_refine.specs.Refinement.{refine_valences, refine_rings, refine_positions}
 use Rattle.stack_strange.specs.Expected.{whole}
 use Rattle.move_lists.specs.Fresh.{ListCall, after_calls}
 use Rattle.mirror_pair.specs.Pair.{TrueStack}
 use Rattle.mirror_pair.proofs.TrueStacks.{refinement_leaves_a_true_stack, lists_keep_the_stack_true, by_levels}
+use Rattle.std.specs.Prelude.{Ok}
 
 -- control vertices low and high have the smallest and the largest coordinate on the axis
 pub record Extremes (n : ℕ) (ps : List ℤ) (axis low high : ℕ) : Type 0 where
@@ -39,7 +39,7 @@ module _ (n levels : ℕ) (t : Lent) (ps : List ℤ) (K : TrueStack n levels t p
   no_coordinate_passes_the_extremes low high e = levels_stay_in_hull (coordinate_at ps axis low) (coordinate_at ps axis high) e.between
 
 -- so it is after an accepted refinement and any lists of moves
-module _ (n levels : ℕ) (t : Lent) (ps : List ℤ) (accepted : stack_verdict n levels t ps ≡ Accepted) (cs : List ListCall) where
+module _ (n levels : ℕ) (t : Lent) (ps : List ℤ) (accepted : stack_verdict n levels t ps ≡ (Ok tt)) (cs : List ListCall) where
   abbrev t₁ : Lent
   t₁ = lent (refine_valences n levels t ps) (refine_rings n levels t ps)
 

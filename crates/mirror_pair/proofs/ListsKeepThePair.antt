@@ -17,8 +17,6 @@ use Rattle.rings.specs.Table.{Lent, rows}
 use Rattle.rings.specs.Check.{beyond_at}
 use Rattle.rings.specs.Verdict.{refuse_if, and_then, after, with_amount}
 use Rattle.rings.specs.declared.Refusal.TheVariants.{NoRoom, StackAltered}
-use Rattle.rings.specs.declared.Verdict.{Verdict}
-use Rattle.rings.specs.declared.Verdict.TheVariants.{Accepted, Refused}
 use Rattle.rings.proofs.Verdicts.{at_same}
 use Rattle.stack_judge.specs.Stack.{level_start, level_of, number_in}
 use Rattle.stack_judge.proofs.Sizes.{level_count_lem}
@@ -41,6 +39,8 @@ use Rattle.mirror_pair.proofs.PairsAreMirrored as pair
 use Rattle.mirror_pair.proofs.Opposites.{opposite_again}
 use Rattle.mirror_pair.proofs.TrueStacks.{by_control, strange_is_beyond, length_stays, list_keeps_the_stack_true}
 use Rattle.mirror_pair.proofs.MirroredRuns.{named_mirrored, Alike, both, run_mirrored, alike_verdict, alike_points}
+use Rattle.rings.specs.Refusal.{Verdict}
+use Rattle.std.specs.Prelude.{Ok, Err}
 
 module _ (n levels : ℕ) (t : Lent) (ps : List ℤ) (t' : Lent) (ps' : List ℤ) (P : Pair n levels t ps t' ps') where
   abbrev M : Mesh
@@ -135,7 +135,7 @@ module _ (n levels : ℕ) (t : Lent) (ps : List ℤ) (t' : Lent) (ps' : List ℤ
         rw (same_whole, names_alike ms) (words_same (touched_at n levels t' ps' (named ms)) marks W (touched_at_alike (named ms)))
 
     -- an accepted list marks the same words in both maps
-    pub list_marks_the_same_words : apply_verdict n levels t ps map ms ≡ Accepted → (w : ℕ) → w < word_count W
+    pub list_marks_the_same_words : apply_verdict n levels t ps map ms ≡ (Ok tt) → (w : ℕ) → w < word_count W
         → get_or (apply_map n levels t' ps' map' ms') w 0 ≡ get_or (apply_map n levels t ps map ms) w 0
     unfolding apply_map touched_map after
     list_marks_the_same_words e w h =
@@ -152,10 +152,10 @@ module _ (n levels : ℕ) (t : Lent) (ps : List ℤ) (t' : Lent) (ps' : List ℤ
     after_opposite : (v : Verdict) → apply_verdict n levels t ps map ms ≡ v
         → Opposite n (apply_positions n levels t ps map ms) (apply_positions n levels t' ps' map' ms')
     unfolding level rows
-    after_opposite (Refused r) e =
+    after_opposite (Err r) e =
         rw (refused_keeps n levels t ps map ms r e, refused_keeps n levels t' ps' map' ms' r (verdict_alike ∙ e))
         P.controls.points
-    after_opposite Accepted e =
+    after_opposite (Ok u) e =
         opposite_again n (moved_control n levels t ps map ms) (moved_control n levels t' ps' map' ms')
         (apply_positions n levels t ps map ms) (apply_positions n levels t' ps' map' ms')
         (length_stays n levels t' ps' map' ms' ∙ P.controls.points.long ∙ sym (length_stays n levels t ps map ms))

@@ -1,6 +1,7 @@
 -- A list of moves and its mirror image, on control points and their mirror image: refused alike, with the same place, or both carried out,
 -- and then the control points are opposite again.
 -- Assumes nothing.
+use Rattle.std.proofs.Common.{Result, Ok, Err}
 use mathlib.Core.Path.{◌≡◌, refl, sym, ap, ◌∙◌, subst}
 use mathlib.Core.Bool.{◌||◌}
 use mathlib.Core.List.{List, [], ◌∷◌}
@@ -14,8 +15,8 @@ use Rattle.mesh.proofs.Lists.{le_split, eq_split}
 use Rattle.units.specs.declared.Point.{Point}
 use Rattle.millimetres.specs.Millimetres.{mm_of}
 use Rattle.millimetres.specs.Move.{moved_to}
-use Rattle.millimetres.specs.declared.Moved.{Moved}
-use Rattle.millimetres.specs.declared.Moved.TheVariants.{At, NotFinite, OutOfReach}
+use Rattle.millimetres.specs.declared.Unmoved.{Unmoved}
+use Rattle.millimetres.specs.declared.Unmoved.TheVariants.{NotFinite, OutOfReach}
 use Rattle.mirror.specs.MirroredMove.{mirrored_point, mirrored_moved}
 use Rattle.mirror.proofs.MirroredMovesLeadToMirroredPoints.{mirrored_move_lem}
 use Rattle.rings.specs.Table.{point_at}
@@ -72,13 +73,13 @@ pub data Alike (n : ℕ) : Pending → Pending → Type 0 where
   both : (ps ps' : List ℤ) → n * 3 ≤ length ps → Opposite n ps ps' → Alike n (pending ps) (pending ps')
   refused : (r : Refusal) → Alike n (stopped r) (stopped r)
 
-settle_mirrored : (n : ℕ) (ps ps' : List ℤ) (v i : ℕ) (m : Moved) → v < n → n * 3 ≤ length ps → Opposite n ps ps'
+settle_mirrored : (n : ℕ) (ps ps' : List ℤ) (v i : ℕ) (m : Result Point Unmoved) → v < n → n * 3 ≤ length ps → Opposite n ps ps'
     → Alike n (settle ps v i m) (settle ps' v i (mirrored_moved m))
-settle_mirrored n ps ps' v i (At p) h room o =
+settle_mirrored n ps ps' v i (Ok p) h room o =
     let r : v * 3 + 3 ≤ length ps = omega arith in
     both (placed ps v p) (placed ps' v (mirrored_point p)) (let l = length_placed ps v p r in omega arith) (placed_opposite n ps ps' v p r o)
-settle_mirrored n ps ps' v i NotFinite h room o = refused (refusal.NotFinite i)
-settle_mirrored n ps ps' v i OutOfReach h room o = refused (refusal.OutOfReach i)
+settle_mirrored n ps ps' v i (Err NotFinite) h room o = refused (refusal.NotFinite i)
+settle_mirrored n ps ps' v i (Err OutOfReach) h room o = refused (refusal.OutOfReach i)
 
 step_mirrored : (n : ℕ) (s s' : Pending) (m : Move) (i : ℕ) → Alike n s s' → Alike n (step n s m i) (step n s' (mirrored_move m) i)
 unfolding step

@@ -20,9 +20,6 @@ use Rattle.rings.specs.Table.{Lent, valence_at, rows, coordinate_at}
 use Rattle.rings.specs.Check.{bad_count, short_rings, short_tables, improper_row, unfit_row, beyond_at, check_verdict, check_answer}
 use Rattle.rings.specs.Verdict.{refuse_if, with_counts}
 use Rattle.rings.specs.declared.Refusal.TheVariants.{VertexCount, TableTooShort, RingImproper, NotMutual, NotTriangle, ControlCoordinate}
-use Rattle.rings.specs.declared.Counted.TheVariants.{Counts}
-use Rattle.rings.specs.declared.Verdict.{Verdict}
-use Rattle.rings.specs.declared.Verdict.TheVariants.{Accepted, Refused}
 use Rattle.rings.proofs.Verdicts.{at_same}
 use Rattle.stack_judge.specs.Stack.{short_stack}
 use Rattle.stack_judge.specs.StackVerdict.{stack_verdict}
@@ -33,6 +30,8 @@ use Rattle.mirror.proofs.MirroredMeshIsSound.{same_edges, same_faces}
 use Rattle.mirror.proofs.EveryLevelIsMirrored.{every_level_is_mirrored, same_edges_at, same_faces_at}
 use Rattle.stack_refine.specs.Refinement.{refine_answer}
 use Rattle.mirror_pair.specs.Pair.{Opposite, MirroredTables}
+use Rattle.rings.specs.Refusal.{Verdict, counted}
+use Rattle.std.specs.Prelude.{Ok, Err}
 
 -- ---- one vertex
 
@@ -113,7 +112,7 @@ module _ (n : ℕ) (t : Lent) (ps : List ℤ) (t' : Lent) (ps' : List ℤ) (y : 
       (at_same (unfit_row n t) (unfit_row n t') n RingImproper _ _ unfit_alike
       (λ fit. at_same (one_sided M) (one_sided N) n NotMutual _ _ (one_sided_alike fit)
       (λ both. at_same (open_faced M) (open_faced N) n NotTriangle _ _ (open_faced_alike fit both)
-      (λ closed. at_same (beyond_at ps) (beyond_at ps') n ControlCoordinate Accepted Accepted (λ v h. sym (beyond_alike n ps ps' y.points v h)) (λ c. refl))))))
+      (λ closed. at_same (beyond_at ps) (beyond_at ps') n ControlCoordinate (Ok tt) (Ok tt) (λ v h. sym (beyond_alike n ps ps' y.points v h)) (λ c. refl))))))
 
   -- the check answers alike
   pub check_is_answered_alike : check_answer n t' ps' ≡ check_answer n t ps
@@ -136,8 +135,8 @@ module _ (n : ℕ) (t : Lent) (ps : List ℤ) (t' : Lent) (ps' : List ℤ) (y : 
         go : (v : Verdict) → stack_verdict n levels t ps ≡ v
             → with_counts v (level N levels).count (edges (level N levels)) (faces (level N levels))
             ≡ with_counts v (level M levels).count (edges (level M levels)) (faces (level M levels))
-        go (Refused r) e = refl
-        go Accepted e =
+        go (Err r) e = refl
+        go (Ok u) e =
             let S : Sound M = (stack_only n levels t ps e).control.sound in
-            ap (λ v. Counts v (edges (level N levels)) (faces (level N levels))) (every_level_is_mirrored M N S control_mirrored levels).count
-            ∙ ap₂ (Counts (level M levels).count) (same_edges_at M N S control_mirrored levels) (same_faces_at M N S control_mirrored levels)
+            ap (λ v. counted v (edges (level N levels)) (faces (level N levels))) (every_level_is_mirrored M N S control_mirrored levels).count
+            ∙ ap₂ (counted (level M levels).count) (same_edges_at M N S control_mirrored levels) (same_faces_at M N S control_mirrored levels)

@@ -9,7 +9,6 @@ use lib.ListN.{length}
 use Rattle.mesh.proofs.Shuffled.{length_shuffled}
 use Rattle.mesh.proofs.SameRounds.{reverse_shuffled, round_shuffled}
 use Rattle.rings.specs.Table.{Lent, lent, ring_of}
-use Rattle.rings.specs.declared.Verdict.TheVariants.{Accepted}
 use Rattle.stack_judge.specs.StackVerdict.{stack_verdict}
 use Rattle.stack_refine.specs.Refinement.{refine_valences, refine_rings, refine_positions}
 use Rattle.stack_refine.proofs.StackKeeps.{lengths_stay}
@@ -17,13 +16,14 @@ use Rattle.mirror_pair.specs.Pair.{MirroredTables, Pair}
 use Rattle.mirror_pair.proofs.MirroredTablesAreJudgedAlike.{stack_is_judged_alike}
 use Rattle.mirror_pair.proofs.Opposites.{opposite_again}
 use Rattle.mirror_pair.proofs.TrueStacks.{control_ring, control_valence, control_point, refinement_leaves_a_true_stack}
+use Rattle.std.specs.Prelude.{Ok}
 
 module _ (n levels : ℕ) (t : Lent) (ps : List ℤ) (t' : Lent) (ps' : List ℤ) (z : MirroredTables n t ps t' ps')
-    (e : stack_verdict n levels t ps ≡ Accepted) where
-  left : Accepted ≡ stack_verdict n levels t ps
+    (e : stack_verdict n levels t ps ≡ (Ok tt)) where
+  left : (Ok tt) ≡ stack_verdict n levels t ps
   left = sym e
 
-  right : Accepted ≡ stack_verdict n levels t' ps'
+  right : (Ok tt) ≡ stack_verdict n levels t' ps'
   right = sym (stack_is_judged_alike n t ps t' ps' z levels ∙ e)
 
   same_length : (v : ℕ) → v < n → length (ring_of t' v) ≡ length (ring_of t v)

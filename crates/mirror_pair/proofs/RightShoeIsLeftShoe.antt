@@ -8,7 +8,6 @@ use Prim.Native.Nat.{ℕ, ◌<◌}
 use lib.IntN.{ℤ}
 use lib.ListN.{get_or}
 use Rattle.rings.specs.Table.{Lent, lent}
-use Rattle.rings.specs.declared.Verdict.TheVariants.{Accepted}
 use Rattle.move_map.specs.Map.{word_count}
 use Rattle.stack_judge.specs.StackVerdict.{stack_verdict}
 use Rattle.stack_refine.specs.Refinement.{refine_valences, refine_rings, refine_positions}
@@ -20,9 +19,10 @@ use Rattle.mirror_pair.specs.MirroredLists.{MirroredCall, MirroredCalls}
 use Rattle.mirror_pair.proofs.RefinementMakesThePair.{refinement_makes_a_pair}
 use Rattle.mirror_pair.proofs.PairsAreMirrored.{pair_is_mirrored}
 use Rattle.mirror_pair.proofs.ListsKeepThePair as lists
+use Rattle.std.specs.Prelude.{Ok}
 
 module _ (n levels : ℕ) (t : Lent) (ps : List ℤ) (t' : Lent) (ps' : List ℤ) (mirrored : MirroredTables n t ps t' ps')
-    (accepted : stack_verdict n levels t ps ≡ Accepted) (cs ds : List ListCall) (calls : MirroredCalls cs ds) where
+    (accepted : stack_verdict n levels t ps ≡ (Ok tt)) (cs ds : List ListCall) (calls : MirroredCalls cs ds) where
   -- the tables of both sides after the refinement and the lists
   abbrev pub left_valences : List ℕ
   left_valences = refine_valences n levels t ps
@@ -63,7 +63,7 @@ module _ (n levels : ℕ) (t : Lent) (ps : List ℤ) (t' : Lent) (ps' : List ℤ
         (lists.list_is_answered_alike n levels (lent left_valences left_rings) left_positions (lent right_valences right_rings) right_positions stays_a_pair
         c.map d.map c.moves call.words)
 
-    pub next_list_marks_the_same_words : apply_verdict n levels (lent left_valences left_rings) left_positions c.map c.moves ≡ Accepted
+    pub next_list_marks_the_same_words : apply_verdict n levels (lent left_valences left_rings) left_positions c.map c.moves ≡ (Ok tt)
         → (w : ℕ) → w < word_count (whole n levels (lent left_valences left_rings) left_positions)
         → get_or (apply_map n levels (lent right_valences right_rings) right_positions d.map d.moves) w 0
         ≡ get_or (apply_map n levels (lent left_valences left_rings) left_positions c.map c.moves) w 0

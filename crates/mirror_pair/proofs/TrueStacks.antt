@@ -15,8 +15,6 @@ use Rattle.steps.specs.Sizes.{sizes_of}
 use Rattle.loop_step.specs.Refine.{level}
 use Rattle.rings.specs.Table.{lent, Lent, valence_at, ring_of, rows, coordinate_at}
 use Rattle.rings.specs.Check.{beyond_at}
-use Rattle.rings.specs.declared.Verdict.{Verdict}
-use Rattle.rings.specs.declared.Verdict.TheVariants.{Accepted, Refused}
 use Rattle.stack_judge.specs.Stack.{level_start}
 use Rattle.stack_judge.specs.StackVerdict.{stack_verdict}
 use Rattle.stack_judge.proofs.Sizes.{level_count_lem, start_none}
@@ -34,10 +32,12 @@ use Rattle.move_lists.specs.Fresh.{ListCall, after_calls}
 use Rattle.move_lists.proofs.AfterList.{refused_keeps, after_length}
 use Rattle.move_lists.proofs.EveryLevelIsFresh.{refinement_is_fresh, list_keeps_fresh}
 use Rattle.mirror_pair.specs.Pair.{TrueStack}
+use Rattle.rings.specs.Refusal.{Verdict}
+use Rattle.std.specs.Prelude.{Ok, Err}
 
 -- ---- after a refinement
 
-module _ (n levels : ℕ) (t : Lent) (ps : List ℤ) (accepted : Accepted ≡ stack_verdict n levels t ps) where
+module _ (n levels : ℕ) (t : Lent) (ps : List ℤ) (accepted : (Ok tt) ≡ stack_verdict n levels t ps) where
   abbrev t₁ : Lent
   t₁ = lent (refine_valences n levels t ps) (refine_rings n levels t ps)
 
@@ -84,8 +84,8 @@ module _ (n levels : ℕ) (t : Lent) (ps : List ℤ) (map : List ℕ) (ms : List
   length_stays = go (apply_verdict n levels t ps map ms) refl
     where
       go : (v : Verdict) → apply_verdict n levels t ps map ms ≡ v → length (apply_positions n levels t ps map ms) ≡ length ps
-      go (Refused r) e = ap length (refused_keeps n levels t ps map ms r e)
-      go Accepted e = after_length n levels t ps map ms e
+      go (Err r) e = ap length (refused_keeps n levels t ps map ms r e)
+      go (Ok u) e = after_length n levels t ps map ms e
 
   pub list_keeps_the_stack_true : TrueStack n levels t ps → TrueStack n levels t (apply_positions n levels t ps map ms)
   list_keeps_the_stack_true K = record {

@@ -20,7 +20,6 @@ use Rattle.loop_step.proofs.Levels.{loop_grounded}
 use Rattle.rings.specs.Table.{Lent, rows, coordinate_at}
 use Rattle.rings.specs.Verdict.{after}
 use Rattle.rings.specs.declared.Refusal.{Refusal}
-use Rattle.rings.specs.declared.Verdict.TheVariants.{Accepted, Refused}
 use Rattle.rings.proofs.Verdicts.{if_accepted, then_accepted}
 use Rattle.stack_judge.specs.Stack.{level_start}
 use Rattle.stack_judge.specs.Accepts.{AcceptsStack}
@@ -36,6 +35,7 @@ use Rattle.move_plan.specs.Moves.{Pending, pending, stopped, named, pending_verd
 use Rattle.move_plan.specs.declared.Move.{Move}
 use Rattle.move_lists.specs.Apply.{before_moves, moved, apply_verdict, moved_control, apply_positions}
 use Rattle.move_lists.proofs.ControlPoints.{ChangedAt, run_changes, named_below}
+use Rattle.std.specs.Prelude.{Ok, Err}
 
 -- level 0 comes before every other level
 pub control_first : (s : Sizes) (k : ℕ) → s.vertices ≤ level_start s (suc k)
@@ -48,12 +48,12 @@ held_at n t ps axis k x = coordinate_at ps axis (level_start (sizes_of n (rows n
 
 module _ (n levels : ℕ) (t : Lent) (ps : List ℤ) (map : List ℕ) (ms : List Move) where
   -- a refused list leaves the positions as they were
-  pub refused_keeps : (r : Refusal) → apply_verdict n levels t ps map ms ≡ Refused r → apply_positions n levels t ps map ms ≡ ps
+  pub refused_keeps : (r : Refusal) → apply_verdict n levels t ps map ms ≡ Err r → apply_positions n levels t ps map ms ≡ ps
   unfolding apply_positions after
   refused_keeps r e = rw e
 
-  module _ (accepted : apply_verdict n levels t ps map ms ≡ Accepted) where
-    judged : (before_moves n levels t ps (length map) (length ms) ≡ Accepted) × (pending_verdict (moved n levels t ps map ms) ≡ Accepted)
+  module _ (accepted : apply_verdict n levels t ps map ms ≡ (Ok tt)) where
+    judged : (before_moves n levels t ps (length map) (length ms) ≡ (Ok tt)) × (pending_verdict (moved n levels t ps map ms) ≡ (Ok tt))
     unfolding apply_verdict
     judged = then_accepted (before_moves n levels t ps (length map) (length ms)) (pending_verdict (moved n levels t ps map ms)) accepted
 
@@ -83,7 +83,7 @@ module _ (n levels : ℕ) (t : Lent) (ps : List ℤ) (map : List ℕ) (ms : List
     unfolding moved_control moved
     control_changes = go (moved n levels t ps map ms) refl judged.1
       where
-        go : (s : Pending) → moved n levels t ps map ms ≡ s → pending_verdict s ≡ Accepted → ChangedAt (named ms) ps (pending_points s ps)
+        go : (s : Pending) → moved n levels t ps map ms ≡ s → pending_verdict s ≡ (Ok tt) → ChangedAt (named ms) ps (pending_points s ps)
         go (pending qs) e h = run_changes n ms 0 ps qs stack_accepted.control.points e
         go (stopped r) e h = absurd (let z : ◌≡◌ {A = ℕ} 0 1 = cc in omega arith)
 
@@ -96,7 +96,7 @@ module _ (n levels : ℕ) (t : Lent) (ps : List ℤ) (map : List ℕ) (ms : List
     unfolding moved
     names_below j l = go (moved n levels t ps map ms) refl judged.1
       where
-        go : (s : Pending) → moved n levels t ps map ms ≡ s → pending_verdict s ≡ Accepted → named ms j ≡ false
+        go : (s : Pending) → moved n levels t ps map ms ≡ s → pending_verdict s ≡ (Ok tt) → named ms j ≡ false
         go (pending qs) e h = named_below n ms 0 ps qs e j l
         go (stopped r) e h = absurd (let z : ◌≡◌ {A = ℕ} 0 1 = cc in omega arith)
 

@@ -1,4 +1,5 @@
 -- What a list of moves does to the control points: only named vertices change, and the table keeps its length. Assumes nothing.
+use Rattle.std.proofs.Common.{Result, Ok, Err}
 use Prim.Native.Nat.{ℕ, suc, ◌+◌, ◌*◌, ◌≤◌, ◌<◌}
 use mathlib.Core.Path.{◌≡◌, refl, sym, ◌∙◌}
 use mathlib.Core.Bool.{Bool, false, ◌||◌}
@@ -14,8 +15,8 @@ use Rattle.mesh.proofs.Lists.{lt_split, le_split}
 use Rattle.millimetres.specs.Move.{moved_to}
 use Rattle.millimetres.specs.Millimetres.{mm_of}
 use Rattle.units.specs.declared.Point.{Point}
-use Rattle.millimetres.specs.declared.Moved.{Moved}
-use Rattle.millimetres.specs.declared.Moved.TheVariants.{At, NotFinite, OutOfReach}
+use Rattle.millimetres.specs.declared.Unmoved.{Unmoved}
+use Rattle.millimetres.specs.declared.Unmoved.TheVariants.{NotFinite, OutOfReach}
 use Rattle.rings.specs.Table.{coordinate_at, point_at}
 use Rattle.rings.specs.declared.Refusal.{Refusal}
 use Rattle.rings.proofs.Tables.{length_put, put_before, put_behind}
@@ -50,10 +51,10 @@ placed_changes ps w p room = record {
     later : (v axis : ℕ) → w ≤ v → (w ≡ v → ⊥) → w * 3 + 3 ≤ v * 3 + axis
     later v axis l ne = ⊎_elim (λ q. let r = q.1 in omega arith) (λ q. absurd (ne (let r = q.1 in omega arith))) (lt_split w v)
 
-settled_changes : (ps : List ℤ) (w i : ℕ) (m : Moved) (qs : List ℤ) → w * 3 + 3 ≤ length ps → settle ps w i m ≡ pending qs → ChangedAt (eqb w) ps qs
-settled_changes ps w i (At p) qs room e = let q : placed ps w p ≡ qs = cc in rw (sym q) (placed_changes ps w p room)
-settled_changes ps w i NotFinite qs room e = absurd (let z : ◌≡◌ {A = ℕ} 0 1 = cc in omega arith)
-settled_changes ps w i OutOfReach qs room e = absurd (let z : ◌≡◌ {A = ℕ} 0 1 = cc in omega arith)
+settled_changes : (ps : List ℤ) (w i : ℕ) (m : Result Point Unmoved) (qs : List ℤ) → w * 3 + 3 ≤ length ps → settle ps w i m ≡ pending qs → ChangedAt (eqb w) ps qs
+settled_changes ps w i (Ok p) qs room e = let q : placed ps w p ≡ qs = cc in rw (sym q) (placed_changes ps w p room)
+settled_changes ps w i (Err NotFinite) qs room e = absurd (let z : ◌≡◌ {A = ℕ} 0 1 = cc in omega arith)
+settled_changes ps w i (Err OutOfReach) qs room e = absurd (let z : ◌≡◌ {A = ℕ} 0 1 = cc in omega arith)
 
 -- one move changes only its vertex
 pub step_changes : (n : ℕ) (ps : List ℤ) (m : Move) (i : ℕ) (qs : List ℤ) → n * 3 ≤ length ps → step n (pending ps) m i ≡ pending qs

@@ -38,3 +38,6 @@ module _ (es : List Entry) (k : ℕ) (d : Entry) (h : k < length es) where
 pub named_none : (s : ℕ → Bool) → s ≡ with_named s []
 unfolding with_named
 named_none s = refl
+
+-- what one entry more, and none, come to
+pub ruleset one_entry = (laid_more, named_more, named_none)

@@ -20,8 +20,6 @@ use Rattle.loop_step.specs.Loop.{loop}
 use Rattle.loop_step.proofs.Levels.{loop_grounded}
 use Rattle.rings.specs.Table.{Lent, lent, rows, coordinate_at}
 use Rattle.rings.specs.Verdict.{after}
-use Rattle.rings.specs.declared.Verdict.{Verdict}
-use Rattle.rings.specs.declared.Verdict.TheVariants.{Accepted, Refused}
 use Rattle.stack_judge.specs.Stack.{level_start}
 use Rattle.stack_judge.specs.Accepts.{AcceptsStack}
 use Rattle.stack_judge.specs.StackVerdict.{stack_verdict}
@@ -33,11 +31,13 @@ use Rattle.move_plan.specs.declared.Move.{Move}
 use Rattle.move_lists.specs.Apply.{apply_verdict, moved_control, apply_positions}
 use Rattle.move_lists.specs.Fresh.{Fresh, ListCall, after_calls}
 use Rattle.move_lists.proofs.AfterList.{held_at, refused_keeps, stack_accepted, control_changes, after_list, control_after}
+use Rattle.rings.specs.Refusal.{Verdict}
+use Rattle.std.specs.Prelude.{Ok, Err}
 
 -- ---- the steps
 
 module _ (n levels : ℕ) (t : Lent) (ps : List ℤ) where
-  wrote : stack_verdict n levels t ps ≡ Accepted
+  wrote : stack_verdict n levels t ps ≡ (Ok tt)
       → (refine_valences n levels t ps ≡ stacked_valences n levels t) × (refine_rings n levels t ps ≡ stacked_rings n levels t)
       × (refine_positions n levels t ps ≡ stacked_positions n levels t ps)
   unfolding refine_valences refine_rings refine_positions after
@@ -71,12 +71,12 @@ module _ (n levels : ℕ) (t : Lent) (ps : List ℤ) where
     }
 
   -- an accepted refinement leaves fresh tables
-  pub refinement_is_fresh : stack_verdict n levels t ps ≡ Accepted
+  pub refinement_is_fresh : stack_verdict n levels t ps ≡ (Ok tt)
       → Fresh n levels (lent (refine_valences n levels t ps) (refine_rings n levels t ps)) (refine_positions n levels t ps)
   refinement_is_fresh e = let w = wrote e in rw (w.0, w.1, w.2) (stacked_is_fresh (stack_only n levels t ps e))
 
   module _ (map : List ℕ) (ms : List Move) where
-    accepted_keeps_fresh : Fresh n levels t ps → apply_verdict n levels t ps map ms ≡ Accepted → Fresh n levels t (apply_positions n levels t ps map ms)
+    accepted_keeps_fresh : Fresh n levels t ps → apply_verdict n levels t ps map ms ≡ (Ok tt) → Fresh n levels t (apply_positions n levels t ps map ms)
     unfolding held_at loop
     accepted_keeps_fresh f e =
         let M : Mesh = rows n t in
@@ -98,8 +98,8 @@ module _ (n levels : ℕ) (t : Lent) (ps : List ℤ) where
     list_keeps_fresh f = go (apply_verdict n levels t ps map ms) refl
       where
         go : (v : Verdict) → apply_verdict n levels t ps map ms ≡ v → Fresh n levels t (apply_positions n levels t ps map ms)
-        go (Refused r) e = rw (refused_keeps n levels t ps map ms r e) f
-        go Accepted e = accepted_keeps_fresh f e
+        go (Err r) e = rw (refused_keeps n levels t ps map ms r e) f
+        go (Ok u) e = accepted_keeps_fresh f e
 
 -- ---- the theorem
 
@@ -111,14 +111,14 @@ calls_keep_fresh n levels t (c ∷ cs) ps f =
     calls_keep_fresh n levels t cs (apply_positions n levels t ps c.map c.moves) (list_keeps_fresh n levels t ps c.map c.moves f)
 
 -- after an accepted refinement and any lists of moves every level is what a fresh refinement gives
-pub every_level_is_fresh : (n levels : ℕ) (t : Lent) (ps : List ℤ) → stack_verdict n levels t ps ≡ Accepted → (cs : List ListCall)
+pub every_level_is_fresh : (n levels : ℕ) (t : Lent) (ps : List ℤ) → stack_verdict n levels t ps ≡ (Ok tt) → (cs : List ListCall)
     → Fresh n levels (lent (refine_valences n levels t ps) (refine_rings n levels t ps))
     (after_calls n levels (lent (refine_valences n levels t ps) (refine_rings n levels t ps)) cs (refine_positions n levels t ps))
 every_level_is_fresh n levels t ps e cs =
     calls_keep_fresh n levels (lent (refine_valences n levels t ps) (refine_rings n levels t ps)) cs (refine_positions n levels t ps) (refinement_is_fresh n levels t ps e)
 
 -- an accepted list leaves every untouched point as it was
-pub untouched_stays : (n levels : ℕ) (t : Lent) (ps : List ℤ) (map : List ℕ) (ms : List Move) → apply_verdict n levels t ps map ms ≡ Accepted
+pub untouched_stays : (n levels : ℕ) (t : Lent) (ps : List ℤ) (map : List ℕ) (ms : List Move) → apply_verdict n levels t ps map ms ≡ (Ok tt)
     → (axis : ℕ) → axis < 3 → (k x : ℕ) → k ≤ levels → x < (level (rows n t) k).count → touched (loop (rows n t)) (named ms) k x ≡ false
     → coordinate_at (apply_positions n levels t ps map ms) axis (level_start (sizes_of n (rows n t)) k + x) ≡ coordinate_at ps axis (level_start (sizes_of n (rows n t)) k + x)
 unfolding touched held_at level_start refreshed

@@ -18,7 +18,6 @@ use Rattle.rings.specs.Table.{Lent, valence_at, rows}
 use Rattle.rings.specs.Verdict.{and_then}
 use Rattle.rings.specs.declared.Refusal.{Refusal}
 use Rattle.rings.specs.declared.Refusal.TheVariants.{NoRoom, StackAltered, TooManyMoves}
-use Rattle.rings.specs.declared.Verdict.TheVariants.{Accepted, Refused}
 use Rattle.rings.proofs.Verdicts.{if_hit, if_pass, at_hit, at_pass, if_accepted, at_accepted, then_accepted}
 use Rattle.move_map.specs.Map.{word_count}
 use Rattle.stack_judge.specs.Stack.{level_count, level_start, stack_count, bad_levels}
@@ -28,6 +27,7 @@ use Rattle.stack_judge.proofs.AcceptedStack.{stack_only}
 use Rattle.stack_judge.proofs.Judged.{counted_edges}
 use Rattle.stack_strange.specs.Expected.{whole, strange}
 use Rattle.move_lists.specs.Apply.{before_moves}
+use Rattle.std.specs.Prelude.{Ok, Err}
 
 -- ---- an accepted stack
 
@@ -52,18 +52,18 @@ module _ {n levels : ℕ} {t : Lent} {ps : List ℤ} (a : AcceptsStack n levels 
 -- ---- the outcomes of the judgement
 
 module _ (n levels : ℕ) (t : Lent) (ps : List ℤ) (words moves : ℕ) where
-  pub before_stack : (r : Refusal) → Refused r ≡ stack_verdict n levels t ps → Refused r ≡ before_moves n levels t ps words moves
+  pub before_stack : (r : Refusal) → Err r ≡ stack_verdict n levels t ps → Err r ≡ before_moves n levels t ps words moves
   unfolding before_moves and_then
   before_stack r e = rw (← e)
 
-  module _ (e : Accepted ≡ stack_verdict n levels t ps) where
+  module _ (e : (Ok tt) ≡ stack_verdict n levels t ps) where
     module _ (w : ℕ) (h : w ≡ whole n levels t ps) where
-      pub before_words : words < word_count w → Refused NoRoom ≡ before_moves n levels t ps words moves
+      pub before_words : words < word_count w → Err NoRoom ≡ before_moves n levels t ps words moves
       unfolding before_moves and_then
       before_words l = rw (← e, ← h) (if_hit (ltb words (word_count w)) NoRoom _ true (sym (lt-ltb words (word_count w) l)) refl)
 
       module _ (room : word_count w ≤ words) (x : ℕ) (f : x ≡ first (strange n levels t ps) (whole n levels t ps)) where
-        pub before_strange : x < w → Refused (StackAltered x) ≡ before_moves n levels t ps words moves
+        pub before_strange : x < w → Err (StackAltered x) ≡ before_moves n levels t ps words moves
         unfolding before_moves and_then
         before_strange l =
             let g : x < whole n levels t ps = rw h at l in
@@ -72,19 +72,19 @@ module _ (n levels : ℕ) (t : Lent) (ps : List ℤ) (words moves : ℕ) where
             ∙ sym (if_pass (ltb words (word_count w)) NoRoom _ false (sym (le-ltb words (word_count w) room)) refl))
 
         module _ (none : w ≤ x) where
-          pub before_many : 64 < moves → Refused TooManyMoves ≡ before_moves n levels t ps words moves
+          pub before_many : 64 < moves → Err TooManyMoves ≡ before_moves n levels t ps words moves
           unfolding before_moves and_then
           before_many l =
               rw (← e, ← h)
-              (if_hit (ltb 64 moves) TooManyMoves Accepted true (sym (lt-ltb 64 moves l)) refl
+              (if_hit (ltb 64 moves) TooManyMoves (Ok tt) true (sym (lt-ltb 64 moves l)) refl
               ∙ sym (at_pass (strange n levels t ps) w StackAltered _ x (f ∙ ap (first (strange n levels t ps)) (sym h)) none)
               ∙ sym (if_pass (ltb words (word_count w)) NoRoom _ false (sym (le-ltb words (word_count w) room)) refl))
 
-          pub before_accepted : moves ≤ 64 → Accepted ≡ before_moves n levels t ps words moves
+          pub before_accepted : moves ≤ 64 → (Ok tt) ≡ before_moves n levels t ps words moves
           unfolding before_moves and_then
           before_accepted l =
               rw (← e, ← h)
-              (sym (if_pass (ltb 64 moves) TooManyMoves Accepted false (sym (le-ltb 64 moves l)) refl)
+              (sym (if_pass (ltb 64 moves) TooManyMoves (Ok tt) false (sym (le-ltb 64 moves l)) refl)
               ∙ sym (at_pass (strange n levels t ps) w StackAltered _ x (f ∙ ap (first (strange n levels t ps)) (sym h)) none)
               ∙ sym (if_pass (ltb words (word_count w)) NoRoom _ false (sym (le-ltb words (word_count w) room)) refl))
 
@@ -97,7 +97,7 @@ module _ (n levels : ℕ) (t : Lent) (ps : List ℤ) (words moves : ℕ) where
     pub few : moves ≤ 64
     pub good : bad_levels levels ≡ false
 
-  pub judged : before_moves n levels t ps words moves ≡ Accepted → Judged
+  pub judged : before_moves n levels t ps words moves ≡ (Ok tt) → Judged
   unfolding before_moves stack_verdict
   judged e =
       let b = then_accepted (stack_verdict n levels t ps) _ e in

@@ -17,8 +17,6 @@ use Rattle.loop_step.specs.Refine.{level}
 use Rattle.loop_step.specs.Loop.{loop}
 use Rattle.rings.specs.Table.{Lent, put, rows}
 use Rattle.rings.specs.Verdict.{after, with_amount}
-use Rattle.rings.specs.declared.Verdict.TheVariants.{Accepted}
-use Rattle.rings.specs.declared.Amount.TheVariants.{Of}
 use Rattle.rings.proofs.Tables.{put_behind, length_gather}
 use Rattle.stack_judge.specs.Stack.{level_start, stack_count}
 use Rattle.stack_judge.proofs.Sizes.{level_count_lem}
@@ -33,8 +31,9 @@ use Rattle.move_plan.specs.Moves.{named}
 use Rattle.move_plan.specs.declared.Move.{Move}
 use Rattle.move_lists.specs.Apply.{touched_at, touched_total, touched_map, apply_verdict, apply_answer, apply_map}
 use Rattle.move_lists.proofs.AfterList.{control_first, stack_accepted, names_below, map_room}
+use Rattle.std.specs.Prelude.{Ok}
 
-module _ (n levels : ℕ) (t : Lent) (ps : List ℤ) (map : List ℕ) (ms : List Move) (accepted : apply_verdict n levels t ps map ms ≡ Accepted) where
+module _ (n levels : ℕ) (t : Lent) (ps : List ℤ) (map : List ℕ) (ms : List Move) (accepted : apply_verdict n levels t ps map ms ≡ (Ok tt)) where
   abbrev M : Mesh
   M = rows n t
 
@@ -101,6 +100,6 @@ module _ (n levels : ℕ) (t : Lent) (ps : List ℤ) (map : List ℕ) (ms : List
       ∙ marks_counted (stack_accepted n levels t ps map ms accepted) touched_marked (λ j h g. let c = control_first_in in names_below n levels t ps map ms accepted j (omega arith))
 
   -- the answer is the number of ones in the map, where its words are words of 32 bits
-  pub answer_counts_ones : Words map → apply_answer n levels t ps map ms ≡ Of (ones_in (apply_map n levels t ps map ms) (word_count W))
+  pub answer_counts_ones : Words map → apply_answer n levels t ps map ms ≡ Ok (ones_in (apply_map n levels t ps map ms) (word_count W))
   unfolding apply_answer with_amount
-  answer_counts_ones w = rw accepted (ap Of (sym (counted w)))
+  answer_counts_ones w = rw accepted (ap Ok (sym (counted w)))

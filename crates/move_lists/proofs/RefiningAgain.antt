@@ -4,6 +4,7 @@
 --     next_list_is_judged_by_itself     the next list comes to its moves: nothing can refuse it
 --                                       but the map's room (10), its length (12) and its moves (3, 13, 14).
 -- Assumes nothing.
+use Rattle.std.proofs.Common.{Result, Ok, Err}
 use Prim.Native.Nat.{ℕ, suc, ◌+◌, ◌-◌, ◌*◌, ◌/◌, ◌%◌, ◌≤◌, ◌<◌}
 use mathlib.Core.Path.{◌≡◌, refl, sym, ap, subst, ◌∙◌}
 use mathlib.Core.List.{List, [], ◌∷◌}
@@ -25,11 +26,9 @@ use Rattle.millimetres.specs.Move.{moved_to}
 use Rattle.millimetres.specs.Millimetres.{mm_of}
 use Rattle.millimetres.specs.declared.Mm.{Mm}
 use Rattle.millimetres.specs.declared.Change.{Change}
-use Rattle.millimetres.specs.declared.Moved.{Moved}
-use Rattle.millimetres.specs.declared.Moved.TheVariants.{At, NotFinite, OutOfReach}
+use Rattle.millimetres.specs.declared.Unmoved.{Unmoved}
+use Rattle.millimetres.specs.declared.Unmoved.TheVariants.{NotFinite, OutOfReach}
 use Rattle.rings.specs.Table.{Lent, lent, valence_at, rows, ring_of, coordinate_at, point_at}
-use Rattle.rings.specs.declared.Verdict.{Verdict}
-use Rattle.rings.specs.declared.Verdict.TheVariants.{Accepted, Refused}
 use Rattle.rings.proofs.Verdicts.{then_accepted}
 use Rattle.rings.proofs.Rows.{rows_ring, row_length, room_row}
 use Rattle.stack_judge.specs.Stack.{level_count, level_start, stack_count, level_of, number_in}
@@ -60,6 +59,8 @@ use Rattle.move_lists.proofs.ControlPoints.{step_changes, run_stopped}
 use Rattle.move_lists.proofs.AfterList.{refused_keeps, stack_accepted, control_after, after_length}
 use Rattle.move_lists.proofs.Judging.{before_accepted}
 use Rattle.move_lists.proofs.EveryLevelIsFresh.{every_level_is_fresh}
+use Rattle.rings.specs.Refusal.{Verdict}
+use Rattle.std.specs.Prelude.{Ok, Err}
 
 -- ---- the control points stay in range
 
@@ -74,13 +75,13 @@ placed_near n ps w p room q all v h =
     (λ e. subst Near (sym (point_other ps w p room v e.1)) (all v h))
     (eq_split w v)
 
-settled_near : (n : ℕ) (ps : List ℤ) (w i : ℕ) (x : Mm) (c : Change) → w * 3 + 3 ≤ length ps → NearAll n ps → (m : Moved) → moved_to x c ≡ m
+settled_near : (n : ℕ) (ps : List ℤ) (w i : ℕ) (x : Mm) (c : Change) → w * 3 + 3 ≤ length ps → NearAll n ps → (m : Result Point Unmoved) → moved_to x c ≡ m
     → (qs : List ℤ) → settle ps w i m ≡ pending qs → NearAll n qs
-settled_near n ps w i x c room all (At p) e qs h =
+settled_near n ps w i x c room all (Ok p) e qs h =
     let q : placed ps w p ≡ qs = cc in
     subst (NearAll n) q (placed_near n ps w p room (moved_near x c p e) all)
-settled_near n ps w i x c room all NotFinite e qs h = absurd (let z : ◌≡◌ {A = ℕ} 0 1 = cc in omega arith)
-settled_near n ps w i x c room all OutOfReach e qs h = absurd (let z : ◌≡◌ {A = ℕ} 0 1 = cc in omega arith)
+settled_near n ps w i x c room all (Err NotFinite) e qs h = absurd (let z : ◌≡◌ {A = ℕ} 0 1 = cc in omega arith)
+settled_near n ps w i x c room all (Err OutOfReach) e qs h = absurd (let z : ◌≡◌ {A = ℕ} 0 1 = cc in omega arith)
 
 step_near : (n : ℕ) (ps : List ℤ) (m : Move) (i : ℕ) (qs : List ℤ) → n * 3 ≤ length ps → NearAll n ps → step n (pending ps) m i ≡ pending qs → NearAll n qs
 unfolding step
@@ -104,11 +105,11 @@ module _ (n levels : ℕ) (t : Lent) (ps : List ℤ) (map : List ℕ) (ms : List
   control_near : AcceptsStack n levels t ps → NearAll n ps
   control_near a v h = point_near ps v (a.control.near v h)
 
-  module _ (e : apply_verdict n levels t ps map ms ≡ Accepted) where
+  module _ (e : apply_verdict n levels t ps map ms ≡ (Ok tt)) where
     a : AcceptsStack n levels t ps
     a = stack_accepted n levels t ps map ms e
 
-    run_accepted : pending_verdict (moved n levels t ps map ms) ≡ Accepted
+    run_accepted : pending_verdict (moved n levels t ps map ms) ≡ (Ok tt)
     unfolding apply_verdict
     run_accepted = (then_accepted (before_moves n levels t ps (length map) (length ms)) (pending_verdict (moved n levels t ps map ms)) e).1
 
@@ -116,11 +117,11 @@ module _ (n levels : ℕ) (t : Lent) (ps : List ℤ) (map : List ℕ) (ms : List
     unfolding moved_control moved
     moved_in_range = go (moved n levels t ps map ms) refl run_accepted
       where
-        go : (s : Pending) → moved n levels t ps map ms ≡ s → pending_verdict s ≡ Accepted → NearAll n (pending_points s ps)
+        go : (s : Pending) → moved n levels t ps map ms ≡ s → pending_verdict s ≡ (Ok tt) → NearAll n (pending_points s ps)
         go (pending qs) q h = run_near n ms 0 ps qs a.control.points (control_near a) q
         go (stopped r) q h = absurd (let z : ◌≡◌ {A = ℕ} 0 1 = cc in omega arith)
 
-    accepted_keeps : stack_verdict n levels t (apply_positions n levels t ps map ms) ≡ Accepted
+    accepted_keeps : stack_verdict n levels t (apply_positions n levels t ps map ms) ≡ (Ok tt)
     unfolding level rows
     accepted_keeps =
         stack_all n levels t (apply_positions n levels t ps map ms)
@@ -129,22 +130,22 @@ module _ (n levels : ℕ) (t : Lent) (ps : List ℤ) (map : List ℕ) (ms : List
         subst (λ (z : ℤ). InRange z) (sym (control_after n levels t ps map ms e axis b v h))
         (near_at (moved_control n levels t ps map ms) v axis b (moved_in_range v h))))
 
-  list_keeps_accepted : stack_verdict n levels t ps ≡ Accepted → stack_verdict n levels t (apply_positions n levels t ps map ms) ≡ Accepted
+  list_keeps_accepted : stack_verdict n levels t ps ≡ (Ok tt) → stack_verdict n levels t (apply_positions n levels t ps map ms) ≡ (Ok tt)
   list_keeps_accepted h = go (apply_verdict n levels t ps map ms) refl
     where
-      go : (v : Verdict) → apply_verdict n levels t ps map ms ≡ v → stack_verdict n levels t (apply_positions n levels t ps map ms) ≡ Accepted
-      go (Refused r) e = rw (refused_keeps n levels t ps map ms r e) h
-      go Accepted e = accepted_keeps e
+      go : (v : Verdict) → apply_verdict n levels t ps map ms ≡ v → stack_verdict n levels t (apply_positions n levels t ps map ms) ≡ (Ok tt)
+      go (Err r) e = rw (refused_keeps n levels t ps map ms r e) h
+      go (Ok u) e = accepted_keeps e
 
-calls_keep_accepted : (n levels : ℕ) (t : Lent) (cs : List ListCall) (ps : List ℤ) → stack_verdict n levels t ps ≡ Accepted
-    → stack_verdict n levels t (after_calls n levels t cs ps) ≡ Accepted
+calls_keep_accepted : (n levels : ℕ) (t : Lent) (cs : List ListCall) (ps : List ℤ) → stack_verdict n levels t ps ≡ (Ok tt)
+    → stack_verdict n levels t (after_calls n levels t cs ps) ≡ (Ok tt)
 calls_keep_accepted n levels t [] ps h = h
 calls_keep_accepted n levels t (c ∷ cs) ps h =
     calls_keep_accepted n levels t cs (apply_positions n levels t ps c.map c.moves) (list_keeps_accepted n levels t ps c.map c.moves h)
 
 -- ---- after a refinement
 
-module _ (n levels : ℕ) (t : Lent) (ps : List ℤ) (e : stack_verdict n levels t ps ≡ Accepted) where
+module _ (n levels : ℕ) (t : Lent) (ps : List ℤ) (e : stack_verdict n levels t ps ≡ (Ok tt)) where
   abbrev M : Mesh
   M = rows n t
 
@@ -175,7 +176,7 @@ module _ (n levels : ℕ) (t : Lent) (ps : List ℤ) (e : stack_verdict n levels
           let b = (stack_only n levels t ps e).control in
           ap length (rows_ring n t v h) ∙ row_length t v (room_row b.room h (b.most v h))
 
-  again : stack_verdict n levels t' ps' ≡ Accepted
+  again : stack_verdict n levels t' ps' ≡ (Ok tt)
   again = sym (same_verdict n levels t ps t' ps' control_same) ∙ e
 
   -- the control mesh that the tables hold, and where its levels begin
@@ -193,7 +194,7 @@ module _ (n levels : ℕ) (t : Lent) (ps : List ℤ) (e : stack_verdict n levels
     abbrev qs : List ℤ
     qs = after_calls n levels t' cs ps'
 
-    pub refining_again_is_accepted : stack_verdict n levels t' qs ≡ Accepted
+    pub refining_again_is_accepted : stack_verdict n levels t' qs ≡ (Ok tt)
     refining_again_is_accepted = calls_keep_accepted n levels t' cs ps' again
 
     -- ---- the points
@@ -297,7 +298,7 @@ module _ (n levels : ℕ) (t : Lent) (ps : List ℤ) (e : stack_verdict n levels
 
     -- a list of at most 64 moves, with a map that has room, comes to its moves
     pub next_list_is_judged_by_itself : (words moves : ℕ) → word_count (whole n levels t' qs) ≤ words → moves ≤ most_moves
-        → before_moves n levels t' qs words moves ≡ Accepted
+        → before_moves n levels t' qs words moves ≡ (Ok tt)
     next_list_is_judged_by_itself words moves room few =
         sym (before_accepted n levels t' qs words moves (sym refining_again_is_accepted) (whole n levels t' qs) refl room (whole n levels t' qs)
         (nothing_is_strange n levels t' qs stack as_refined) (omega arith) few)

@@ -10,11 +10,6 @@ use Rattle.rings.specs.Table.{Lent}
 use Rattle.rings.specs.Verdict.{refuse_if, and_then, after, with_amount}
 use Rattle.rings.specs.declared.Refusal.{Refusal}
 use Rattle.rings.specs.declared.Refusal.TheVariants.{LevelCount}
-use Rattle.rings.specs.declared.Verdict.{Verdict}
-use Rattle.rings.specs.declared.Verdict.TheVariants.{Accepted, Refused}
-use Rattle.rings.specs.declared.Amount.{Amount}
-use Rattle.rings.specs.declared.Amount.TheVariants as amount
-use Rattle.rings.specs.declared.Amount.TheVariants.{Of}
 use Rattle.stack_judge.specs.Stack.{bad_levels}
 use Rattle.move_refresh.specs.Stack.{refreshed_positions}
 use Rattle.move_plan.specs.Moves.{named, pending_verdict}
@@ -26,38 +21,40 @@ use Rattle.move_plan.specs.declared.Move.{Move}
 use Rattle.move_plan.proofs.FairPlans.{walk_fair, walk_count}
 use Rattle.move_lists.proofs.Judging.{judged}
 use Rattle.move_plan.proofs.PlansMeanMoves.{Means, plan_means}
+use Rattle.rings.specs.Refusal.{Amount, Verdict}
+use Rattle.std.specs.Prelude.{Ok, Err}
 
 module _ (plan : Plan) (moves levels : ℕ) (t : Lent) (ps : List ℤ) (map : List ℕ) where
   -- refused before the first move
-  pub settle_stopped : (r : Refusal) → Refused r ≡ before_moves plan.count levels t ps (length map) moves
-      → (amount.Refused r ≡ settle_answer plan moves levels t ps map) × (ps ≡ settle_positions plan moves levels t ps map) × (map ≡ settle_map plan moves levels t ps map)
+  pub settle_stopped : (r : Refusal) → Err r ≡ before_moves plan.count levels t ps (length map) moves
+      → (Err r ≡ settle_answer plan moves levels t ps map) × (ps ≡ settle_positions plan moves levels t ps map) × (map ≡ settle_map plan moves levels t ps map)
   unfolding settle_answer settle_positions settle_map settle_verdict and_then after with_amount
   settle_stopped r e = (rw (← e), rw (← e), rw (← e))
 
-  module _ (e : Accepted ≡ before_moves plan.count levels t ps (length map) moves) where
+  module _ (e : (Ok tt) ≡ before_moves plan.count levels t ps (length map) moves) where
     -- refused by a move
-    pub settle_unplanned : (r : Refusal) → plan.verdict ≡ Refused r
-        → (amount.Refused r ≡ settle_answer plan moves levels t ps map) × (ps ≡ settle_positions plan moves levels t ps map) × (map ≡ settle_map plan moves levels t ps map)
+    pub settle_unplanned : (r : Refusal) → plan.verdict ≡ Err r
+        → (Err r ≡ settle_answer plan moves levels t ps map) × (ps ≡ settle_positions plan moves levels t ps map) × (map ≡ settle_map plan moves levels t ps map)
     unfolding settle_answer settle_positions settle_map settle_verdict and_then after with_amount
     settle_unplanned r h = (rw (← e, h), rw (← e, h), rw (← e, h))
 
     -- carried out
-    pub settle_done : plan.verdict ≡ Accepted → (count : ℕ) (ps' : List ℤ) (map' : List ℕ)
+    pub settle_done : plan.verdict ≡ (Ok tt) → (count : ℕ) (ps' : List ℤ) (map' : List ℕ)
         → count ≡ touched_total plan.count levels t ps (named_in (planned plan))
         → ps' ≡ refreshed_positions plan.count t (named_in (planned plan)) (laid ps (planned plan)) levels
         → map' ≡ touched_map plan.count levels t ps (named_in (planned plan)) map
-        → (Of count ≡ settle_answer plan moves levels t ps map) × (ps' ≡ settle_positions plan moves levels t ps map) × (map' ≡ settle_map plan moves levels t ps map)
+        → (Ok count ≡ settle_answer plan moves levels t ps map) × (ps' ≡ settle_positions plan moves levels t ps map) × (map' ≡ settle_map plan moves levels t ps map)
     unfolding settle_answer settle_positions settle_map settle_verdict and_then after with_amount planned
-    settle_done h count ps' map' a b c = (rw (← e, h) (ap Of a), rw (← e, h) b, rw (← e, h) c)
+    settle_done h count ps' map' a b c = (rw (← e, h) (ap Ok a), rw (← e, h) b, rw (← e, h) c)
 
 -- ---- the plan before the first move
 
 module _ (n levels : ℕ) where
-  pub first_refused : true ≡ bad_levels levels → (s : Plan) → s ≡ opened_plan n (Refused LevelCount) → s ≡ first_plan n levels
+  pub first_refused : true ≡ bad_levels levels → (s : Plan) → s ≡ opened_plan n (Err LevelCount) → s ≡ first_plan n levels
   unfolding first_plan refuse_if
   first_refused e s h = rw (← e) h
 
-  pub first_accepted : false ≡ bad_levels levels → (s : Plan) → s ≡ opened_plan n Accepted → s ≡ first_plan n levels
+  pub first_accepted : false ≡ bad_levels levels → (s : Plan) → s ≡ opened_plan n (Ok tt) → s ≡ first_plan n levels
   unfolding first_plan refuse_if
   first_accepted e s h = rw (← e) h
 
@@ -94,20 +91,20 @@ module _ (n levels : ℕ) (t : Lent) (ps : List ℤ) (map : List ℕ) (ms : List
 
   -- two outcomes with one verdict, and, where it is accepted, with the same names and control points
   same_outcome : {A A' : Amount} {P P' : List ℤ} {K K' : List ℕ} {s s' : ℕ → Bool} {c c' : List ℤ} (v : Verdict) → Outcome A P K v s c → Outcome A' P' K' v s' c'
-      → (v ≡ Accepted → (s ≡ s') × (c ≡ c')) → (A ≡ A') × (P ≡ P') × (K ≡ K')
+      → (v ≡ (Ok tt) → (s ≡ s') × (c ≡ c')) → (A ≡ A') × (P ≡ P') × (K ≡ K')
   unfolding with_amount after
-  same_outcome Accepted o o' f =
+  same_outcome (Ok u) o o' f =
       let e = f refl in (
-        o.answers ∙ ap (λ (s : ℕ → Bool). Of (touched_total n levels t ps s)) e.0 ∙ sym o'.answers,
+        o.answers ∙ ap (λ (s : ℕ → Bool). Ok (touched_total n levels t ps s)) e.0 ∙ sym o'.answers,
         o.points ∙ ap₂ (λ (s : ℕ → Bool) (c : List ℤ). refreshed_positions n t s c levels) e.0 e.1 ∙ sym o'.points,
         o.marked ∙ ap (λ (s : ℕ → Bool). touched_map n levels t ps s map) e.0 ∙ sym o'.marked,
       )
-  same_outcome (Refused r) o o' f = (o.answers ∙ sym o'.answers, o.points ∙ sym o'.points, o.marked ∙ sym o'.marked)
+  same_outcome (Err r) o o' f = (o.answers ∙ sym o'.answers, o.points ∙ sym o'.points, o.marked ∙ sym o'.marked)
 
-  judged_list : before_moves n levels t ps (length map) (length ms) ≡ Accepted → Means n ps ms plan
+  judged_list : before_moves n levels t ps (length map) (length ms) ≡ (Ok tt) → Means n ps ms plan
   judged_list e =
       let j = judged n levels t ps (length map) (length ms) e in
-      subst (λ (s : Plan). Means n ps ms (walk_of ps ms s)) (first_accepted n levels (sym j.good) (opened_plan n Accepted) refl)
+      subst (λ (s : Plan). Means n ps ms (walk_of ps ms s)) (first_accepted n levels (sym j.good) (opened_plan n (Ok tt)) refl)
       (plan_means n ps ms j.stack.control.points j.stack.control.near j.few)
 
   -- settling the plan of a list is the call with the list: answer, positions and map
@@ -121,7 +118,7 @@ module _ (n levels : ℕ) (t : Lent) (ps : List ℤ) (map : List ℕ) (ms : List
           → (settle_answer plan (length ms) levels t ps map ≡ apply_answer n levels t ps map ms)
           × (settle_positions plan (length ms) levels t ps map ≡ apply_positions n levels t ps map ms)
           × (settle_map plan (length ms) levels t ps map ≡ apply_map n levels t ps map ms)
-      go Accepted e =
+      go (Ok u) e =
           let m = judged_list e in
           let list : Outcome (apply_answer n levels t ps map ms) (apply_positions n levels t ps map ms) (apply_map n levels t ps map ms) plan.verdict (named ms) (moved_control n levels t ps map ms) =
           subst (λ (v : Verdict). Outcome (apply_answer n levels t ps map ms) (apply_positions n levels t ps map ms) (apply_map n levels t ps map ms) v (named ms) (moved_control n levels t ps map ms))
@@ -131,8 +128,8 @@ module _ (n levels : ℕ) (t : Lent) (ps : List ℤ) (map : List ℕ) (ms : List
           (and_then b plan.verdict) (named_in (planned plan)) (laid ps (planned plan))) e by_plan)
           list
           (λ q. (m.names q, m.points q))
-      go (Refused r) e =
-          same_outcome (Refused r)
+      go (Err r) e =
+          same_outcome (Err r)
           (subst (λ (b : Verdict). Outcome (settle_answer plan (length ms) levels t ps map) (settle_positions plan (length ms) levels t ps map) (settle_map plan (length ms) levels t ps map)
           (and_then b plan.verdict) (named_in (planned plan)) (laid ps (planned plan))) e by_plan)
           (subst (λ (b : Verdict). Outcome (apply_answer n levels t ps map ms) (apply_positions n levels t ps map ms) (apply_map n levels t ps map ms)

@@ -1,7 +1,7 @@
 -- To be believed.
 -- A list of moves as one call (section "Moves"): the refusals in their order, then the positions and the map after it. Nothing else is written.
 -- Assumes nothing.
-use Rattle.std.specs.Prelude.{Bool, List, ℕ, suc, ltb, ℤ, length}
+use Rattle.std.specs.Prelude.{Bool, List, ℕ, suc, ltb, ℤ, length, Ok}
 use Rattle.mesh.specs.Limits.{most_moves}
 use Rattle.steps.specs.Mask.{touched, touched_count}
 use Rattle.steps.specs.Sizes.{sizes_of}
@@ -9,9 +9,6 @@ use Rattle.loop_step.specs.Loop.{loop}
 use Rattle.rings.specs.Table.{Lent, put, rows}
 use Rattle.rings.specs.Verdict.{refuse_if, refuse_at, and_then, after, with_amount}
 use Rattle.rings.specs.declared.Refusal.TheVariants.{NoRoom, StackAltered, TooManyMoves}
-use Rattle.rings.specs.declared.Verdict.{Verdict}
-use Rattle.rings.specs.declared.Verdict.TheVariants.{Accepted}
-use Rattle.rings.specs.declared.Amount.{Amount}
 use Rattle.stack_judge.specs.Stack.{level_of, number_in}
 use Rattle.stack_judge.specs.StackVerdict.{stack_verdict}
 use Rattle.move_map.specs.Map.{word_count, map_words}
@@ -19,6 +16,7 @@ use Rattle.stack_strange.specs.Expected.{whole, strange}
 use Rattle.move_refresh.specs.Stack.{refreshed_positions}
 use Rattle.move_plan.specs.Moves.{Pending, pending, run, named, pending_verdict, pending_points}
 use Rattle.move_plan.specs.declared.Move.{Move}
+use Rattle.rings.specs.Refusal.{Amount, Verdict}
 
 module _ (n levels : ℕ) (t : Lent) (ps : List ℤ) where
   -- what is judged before the first move, for a map of so many words and so many moves: 8, the check, 9, 10 for the tables and the map, 11, 12
@@ -28,7 +26,7 @@ module _ (n levels : ℕ) (t : Lent) (ps : List ℤ) where
       (refuse_if (ltb words (word_count (whole n levels t ps))) NoRoom
       (refuse_at (strange n levels t ps) (whole n levels t ps) StackAltered
       (refuse_if (ltb most_moves moves) TooManyMoves
-      Accepted)))
+      (Ok tt))))
 
   -- stack vertex j is touched where these control vertices are named
   unfoldable pub touched_at : (ℕ → Bool) → ℕ → Bool

@@ -1,7 +1,6 @@
 // The call: a list of moves on a refined stack.
-ghost use Rattle.std.specs.Prelude.{◌≡◌, length};
+ghost use Rattle.std.specs.Prelude.{◌≡◌, length, Ok};
 ghost use Rattle.rings.specs.Table.{lent};
-ghost use Rattle.rings.specs.declared.Verdict.TheVariants.{Accepted};
 ghost use Rattle.move_refresh.specs.Stack.{refreshed_positions};
 ghost use Rattle.move_lists.specs.Apply.{before_moves, touched_total, touched_map, apply_answer, apply_positions, apply_map};
 ghost use Rattle.move_plan.specs.Plan.{Fair, planned, laid, named_in};
@@ -14,7 +13,7 @@ use move_map::words_for;
 use move_plan::list::{opened, walk};
 use move_plan::{Move, Plan};
 use move_refresh::stack::refresh_levels;
-use rings::{Amount, Refusal, Verdict};
+use rings::Refusal;
 use stack_as_refined::stack::first_strange;
 use stack_judge::{is_bad_levels, judge_stack, stack_count};
 
@@ -27,25 +26,23 @@ fn judge_before(
     count: usize,
     levels: usize,
     moves: usize,
-) -> Verdict
+) -> Result<(), Refusal>
     ensures { result ≡ before_moves count levels (lent valences.now rings.now) positions.now words moves }
 {
-    if let Verdict::Refused(r) = judge_stack(valences, rings, positions, count, levels) {
-        return Verdict::Refused(r);
-    }
+    judge_stack(valences, rings, positions, count, levels)?;
     let edges = edge_count(valences, count);
     let whole = stack_count(count, edges, levels);
     if words < words_for(whole) {
-        return Verdict::Refused(Refusal::NoRoom);
+        return Err(Refusal::NoRoom);
     }
     let strange = first_strange(valences, rings, positions, count, levels, edges);
     if strange < whole {
-        return Verdict::Refused(Refusal::StackAltered(strange));
+        return Err(Refusal::StackAltered(strange));
     }
     if MOST_MOVES < moves {
-        return Verdict::Refused(Refusal::TooManyMoves);
+        return Err(Refusal::TooManyMoves);
     }
-    Verdict::Accepted
+    Ok(())
 }
 
 // Carries out an accepted plan on a judged stack: its control points are set, the levels above are
@@ -60,7 +57,7 @@ fn carry_out(
     moves: usize,
 ) -> usize
     requires fair { Fair plan }
-    requires moves_value { before_moves plan.count levels (lent valences.now rings.now) positions.old (length map.old) moves ≡ Accepted }
+    requires moves_value { before_moves plan.count levels (lent valences.now rings.now) positions.old (length map.old) moves ≡ Ok tt }
     ensures value { result ≡ touched_total plan.count levels (lent valences.now rings.now) positions.old (named_in (planned plan)) }
     ensures positions_after { positions.new ≡ refreshed_positions plan.count (lent valences.now rings.now) (named_in (planned plan)) (laid positions.old (planned plan)) levels }
     ensures map_after { map.new ≡ touched_map plan.count levels (lent valences.now rings.now) positions.old (named_in (planned plan)) map.old }
@@ -83,7 +80,7 @@ pub fn settle(
     positions: &mut [i32],
     map: &mut [u32],
     levels: usize,
-) -> Amount
+) -> Result<usize, Refusal>
     requires { Fair plan }
     ensures { (result ≡ settle_answer plan moves levels (lent valences.now rings.now) positions.old map.old)
         × (positions.new ≡ settle_positions plan moves levels (lent valences.now rings.now) positions.old map.old)
@@ -91,18 +88,9 @@ pub fn settle(
 {
     let count = plan.count;
     let words = map.len();
-    if let Verdict::Refused(r) = judge_before(
-        valences, rings, positions, words, count, levels, moves,
-    ) {
-        return Amount::Refused(r);
-    }
-    let verdict = plan.verdict;
-    match verdict {
-        Verdict::Refused(r) => Amount::Refused(r),
-        Verdict::Accepted => Amount::Of(carry_out(
-            plan, valences, rings, positions, map, levels, moves,
-        )),
-    }
+    judge_before(valences, rings, positions, words, count, levels, moves)?;
+    plan.verdict?;
+    Ok(carry_out(plan, valences, rings, positions, map, levels, moves))
 }
 
 // The plan before the first move of a list: refused already where the number of levels is, so that
@@ -111,9 +99,9 @@ pub fn first_plan(count: usize, levels: usize) -> Plan
     ensures { result ≡ first_plan count levels }
 {
     if is_bad_levels(levels) {
-        return opened(count, Verdict::Refused(Refusal::LevelCount));
+        return opened(count, Err(Refusal::LevelCount));
     }
-    opened(count, Verdict::Accepted)
+    opened(count, Ok(()))
 }
 
 // A list of moves on a refined stack: every point that depends on a moved one is set and marked, and
@@ -126,7 +114,7 @@ pub fn apply(
     map: &mut [u32],
     count: usize,
     levels: usize,
-) -> Amount
+) -> Result<usize, Refusal>
     ensures { (result ≡ apply_answer count levels (lent valences.now rings.now) positions.old map.old list.now)
         × (positions.new ≡ apply_positions count levels (lent valences.now rings.now) positions.old map.old list.now)
         × (map.new ≡ apply_map count levels (lent valences.now rings.now) positions.old map.old list.now) }

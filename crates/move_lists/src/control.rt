@@ -9,6 +9,7 @@ use move_map::mark;
 use move_plan::Plan;
 
 // Sets the points of a plan's entries, in order, and marks their vertices.
+#[tactic(auto, using(crate::proofs::EntryByEntry::one_entry), unfolding(move_plan::specs::Plan::planned, move_plan::specs::Moves::placed))]
 pub fn write_control(positions: &mut [i32], map: &mut [u32], plan: Plan)
     requires fair { Fair plan }
     requires count_in_bounds { plan.count * 3 ≤ length positions.old }
@@ -17,15 +18,9 @@ pub fn write_control(positions: &mut [i32], map: &mut [u32], plan: Plan)
     ensures positions_after { positions.new ≡ laid positions.old (planned plan) }
     ensures map_after { marked map.new ≡ with_named (marked map.old) (planned plan) }
 {
-    let entries = plan.entries;
-    let taken = plan.taken;
-    let mut k = 0;
-    while k < taken {
-        let entry = entries[k];
+    for entry in &plan.entries[..plan.taken] {
         let v = entry.vertex as usize;
-        let point = entry.point;
-        set_point(positions, v, point);
+        set_point(positions, v, entry.point);
         mark(map, v);
-        k += 1;
     }
 }

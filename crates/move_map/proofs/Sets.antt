@@ -7,15 +7,15 @@ use Prim.Native.Nat.{ℕ, zero, suc, ◌+◌, ◌-◌, ◌*◌, ◌/◌, ◌%◌
 use native.Mathlib.Nat.{mod-eq_of_lt, one-mul, mul-one, add-zero}
 use native.Mathlib.Numerals.{add-one}
 use native.Mathlib.Omega.{arith}
-use lib.ListN.{length, get_or, set}
-use lib.Seq.{get_or-set_same, get_or-set_other, ext_get_or}
+use lib.ListN.{length, get_or, take, drop, set, replicate, length-replicate, get_or-replicate, get_or-append}
+use lib.Seq.{get_or-set_same, get_or-set_other, ext_get_or, get_or-append-add, get_or-drop, length-take-le}
 use lib.Pow.{pow-lt, shr-shr}
 use lib.Bits.{bit_or}
 use lib.Count.{ones, under, count_trailing_zeros}
 use borrow.Author.Tests.{lt-ltb, le-ltb, eq-eqb, ne_eqb}
 use lib.Dec.{ltb}
 use mathlib.Core.Bool.{◌&&◌}
-use mathlib.Core.List.{[], ◌∷◌}
+use mathlib.Core.List.{[], ◌∷◌, ◌++◌}
 use Rattle.mesh.specs.Search.{bit, sum}
 use Rattle.mesh.proofs.Lists.{eq_split, lt_split, sum_same, sum_zero}
 use Rattle.rings.specs.Table.{put}
@@ -105,59 +105,43 @@ pub emptied_out : (n : ℕ) (s : ℕ → Bool) (j : ℕ) → n ≤ j → emptied
 unfolding emptied
 emptied_out n s j p = rw (le-ltb j n p)
 
-pub emptied_none : (s : ℕ → Bool) → s ≡ emptied 0 s
-emptied_none s = fun_ext (λ j. sym (emptied_out 0 s j (omega arith)))
-
-pub clear_step : (m₀ m : List ℕ) (w : ℕ) → w < length m → marked m ≡ emptied (w * 32) (marked m₀) → marked (set m w 0) ≡ emptied ((w + 1) * 32) (marked m₀)
-clear_step m₀ m w p h = fun_ext (λ j. ⊎_elim
-    (λ q. marked_of (set m w 0) j
-    ∙ ap (λ (x : ℕ). bit_of (get_or (set m w 0) x 0) (j % 32)) q.1
-    ∙ ap (λ (x : ℕ). bit_of x (j % 32)) (get_or-set_same m w 0 0 p)
-    ∙ bit_none (j % 32)
-    ∙ sym (emptied_in ((w + 1) * 32) (marked m₀) j (let v = q.1 in omega arith)))
-    (λ q. marked_of (set m w 0) j
-    ∙ ap (λ (x : ℕ). bit_of x (j % 32)) (get_or-set_other m w (j / 32) 0 0 q.1)
-    ∙ sym (marked_of m j)
-    ∙ ap (λ (s : ℕ → Bool). s j) h
-    ∙ other j q.1)
-    (eq_split (j / 32) w))
+-- a map with zeros for its first k words
+pub cleared : (m zeros : List ℕ) (k : ℕ) → k ≤ length m → zeros ≡ replicate (length (take k m)) 0 → marked (zeros ++ drop k m) ≡ emptied (k * 32) (marked m)
+cleared m zeros k p e = fun_ext (λ j.
+    ⊎_elim
+    (λ l. marked_of (zeros ++ drop k m) j ∙ ap (λ (x : ℕ). bit_of x (j % 32)) (first (j / 32) (let h = l.1 in omega arith)) ∙ bit_none (j % 32) ∙ sym (emptied_in (k * 32) (marked m) j l.1))
+    (λ l. marked_of (zeros ++ drop k m) j ∙ ap (λ (x : ℕ). bit_of x (j % 32)) (rest (j / 32) (let h = l.1 in omega arith)) ∙ sym (marked_of m j) ∙ sym (emptied_out (k * 32) (marked m) j l.1))
+    (lt_split j (k * 32)))
   where
-    other : (j : ℕ) → (j / 32 ≡ w → ⊥) → emptied (w * 32) (marked m₀) j ≡ emptied ((w + 1) * 32) (marked m₀) j
-    other j q = ⊎_elim
-        (λ l. emptied_in (w * 32) (marked m₀) j l.1 ∙ sym (emptied_in ((w + 1) * 32) (marked m₀) j (let k = l.1 in omega arith)))
-        (λ l. emptied_out (w * 32) (marked m₀) j l.1 ∙ sym (emptied_out ((w + 1) * 32) (marked m₀) j (apart j l.1 q)))
-        (lt_split j (w * 32))
-      where
-        apart : (j : ℕ) → w * 32 ≤ j → (j / 32 ≡ w → ⊥) → (w + 1) * 32 ≤ j
-        apart j l q = ⊎_elim (λ k. absurd (q (let h = k.1 in omega arith))) (λ k. k.1) (lt_split j ((w + 1) * 32))
+    z : zeros ≡ replicate k 0
+    z = rw (length-take-le k m p) at e
+
+    long : length zeros ≡ k
+    long = ap length z ∙ length-replicate {A = ℕ} k 0
+
+    first : (w : ℕ) → w < k → get_or (zeros ++ drop k m) w 0 ≡ 0
+    first w l = get_or-append zeros (drop k m) 0 w (omega (arith, long)) ∙ ap (λ (t : List ℕ). get_or t w 0) z ∙ get_or-replicate k w 0 0 l
+
+    rest : (w : ℕ) → k ≤ w → get_or (zeros ++ drop k m) w 0 ≡ get_or m w 0
+    rest w l =
+        let there : length zeros + (w - k) ≡ w = omega (arith, long) in
+        let back : k + (w - k) ≡ w = omega arith in
+        ap (λ (x : ℕ). get_or (zeros ++ drop k m) x 0) (sym there) ∙ get_or-append-add zeros (drop k m) (w - k) 0 ∙ get_or-drop k m (w - k) 0 ∙ ap (λ (x : ℕ). get_or m x 0) back
 
 -- ---- counts
 
-pub ones_law : (m : List ℕ) (w sum : ℕ) → get_or m w 0 < 2 ^ 32 → sum ≡ members (marked m) (w * 32) → sum + ones (get_or m w 0) ≡ members (marked m) ((w + 1) * 32)
+ones_law : (m : List ℕ) (w sum : ℕ) → get_or m w 0 < 2 ^ 32 → sum ≡ members (marked m) (w * 32) → sum + ones (get_or m w 0) ≡ members (marked m) ((w + 1) * 32)
 ones_law m w sum p h =
     let e : w * 32 + 32 ≡ (w + 1) * 32 = omega arith in
     ap₂ (λ (x y : ℕ). x + y) h
     (ones_bits 32 (get_or m w 0) p ∙ members_same (bit_of (get_or m w 0)) (λ k. marked m (w * 32 + k)) 32 (λ k q. sym (marked_at m w k q)))
     ∙ sym (members_add (marked m) (w * 32) 32) ∙ ap (members (marked m)) e
 
-pub ones_step : (m : List ℕ) (w sum : ℕ) → sum ≡ ones_in m w → sum + ones (get_or m w 0) ≡ ones_in m (w + 1)
-unfolding ones_in
-ones_step m w sum h = rw add-one (ap (λ (x : ℕ). x + ones (get_or m w 0)) h)
-
 -- the ones of the first k words are the numbers that they mark
 pub ones_members : (m : List ℕ) → Words m → (k : ℕ) → ones_in m k ≡ members (marked m) (k * 32)
 unfolding ones_in members
 ones_members m h zero = refl
 ones_members m h (suc k) = ones_law m k (ones_in m k) (h.small k) (ones_members m h k) ∙ ap (λ (x : ℕ). members (marked m) (x * 32)) (add-one k)
-
-pub members_le : (s : ℕ → Bool) (n : ℕ) → members s n ≤ n
-unfolding members
-members_le s zero = omega arith
-members_le s (suc n) = let h = members_le s n in go (s n) _ h
-  where
-    go : (b : Bool) (x : ℕ) → x ≤ n → x + bit b ≤ suc n
-    go true x h = omega arith
-    go false x h = omega arith
 
 -- a set that has nothing from `total` on
 pub members_upto : (s : ℕ → Bool) (total n : ℕ) → total ≤ n → ((i : ℕ) → total ≤ i → i < n → s i ≡ false) → members s n ≡ members s total

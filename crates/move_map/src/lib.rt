@@ -10,7 +10,7 @@ pub fn words_for(total: usize) -> usize
     requires { total ≤ stack_bound }
     ensures { result ≡ word_count total }
 {
-    (total + 31) / 32
+    total.div_ceil(32)
 }
 
 // Is number i marked?
@@ -18,7 +18,7 @@ pub fn is_marked(map: &[u32], i: usize) -> bool
     requires { i / 32 < length map.now }
     ensures { result ≡ marked map.now i }
 {
-    (map[i / 32] >> ((i % 32) as u32)) % 2 == 1
+    (map[i / 32] >> (i % 32)) % 2 == 1
 }
 
 // How many numbers from i on are unmarked, as far as `most` and the end of i's word.
@@ -30,18 +30,9 @@ pub fn clear_ahead(map: &[u32], i: usize, most: usize) -> usize
     if is_marked(map, i) {
         return 0;
     }
-    let run = u32::trailing_zeros(map[i / 32] >> ((i % 32) as u32)) as usize;
+    let run = (map[i / 32] >> (i % 32)).trailing_zeros() as usize;
     let rest = 32 - i % 32;
-    if run < rest {
-        if run < most {
-            return run;
-        }
-        return most;
-    }
-    if rest < most {
-        return rest;
-    }
-    most
+    run.min(rest).min(most)
 }
 
 // Marks number i.
@@ -49,8 +40,7 @@ pub fn mark(map: &mut [u32], i: usize)
     requires { i / 32 < length map.old }
     ensures { marked map.new ≡ including (marked map.old) i }
 {
-    let w = i / 32;
-    map[w] = map[w] | (1u32 << ((i % 32) as u32));
+    map[i / 32] |= 1 << (i % 32);
 }
 
 // Unmarks all numbers in the words that `total` points need.
@@ -59,12 +49,7 @@ pub fn clear(map: &mut [u32], total: usize)
     requires total_in_bounds { word_count total ≤ length map.old }
     ensures { marked map.new ≡ emptied (word_count total * 32) (marked map.old) }
 {
-    let n = words_for(total);
-    let mut w = 0;
-    while w < n {
-        map[w] = 0;
-        w += 1;
-    }
+    map[..words_for(total)].fill(0);
 }
 
 // The number of ones in the words that `total` points need, which is how many numbers they mark.
@@ -74,12 +59,8 @@ pub fn count(map: &[u32], total: usize) -> usize
     ensures value { result ≡ ones_in map.now (word_count total) }
     ensures value_2 { result ≡ members (marked map.now) (word_count total * 32) }
 {
-    let n = words_for(total);
-    let mut sum: usize = 0;
-    let mut w = 0;
-    while w < n {
-        sum += u32::count_ones(map[w]) as usize;
-        w += 1;
-    }
-    sum
+    map[..words_for(total)]
+        .iter()
+        .map(|word| word.count_ones() as usize)
+        .sum()
 }

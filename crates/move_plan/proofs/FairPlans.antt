@@ -1,5 +1,6 @@
 -- Every plan that a list of moves comes to can be carried out: at most 64 entries, of control vertices, with points in the range.
 -- Assumes nothing.
+use Rattle.std.proofs.Common.{Result, Ok, Err}
 use mathlib.Core.Path.{◌≡◌, refl, sym, subst, ◌∙◌}
 use mathlib.Core.Bool.{Bool, true, false, cond, ◌&&◌}
 use mathlib.Core.List.{List, [], ◌∷◌}
@@ -18,19 +19,19 @@ use Rattle.millimetres.specs.Move.{fit, changed_by, settled_at, moved_to}
 use Rattle.millimetres.specs.declared.Mm.{Mm}
 use Rattle.units.specs.declared.Point.{Point}
 use Rattle.millimetres.specs.declared.Change.{Change}
-use Rattle.millimetres.specs.declared.Moved.{Moved}
-use Rattle.millimetres.specs.declared.Moved.TheVariants.{At, NotFinite, OutOfReach}
+use Rattle.millimetres.specs.declared.Unmoved.{Unmoved}
+use Rattle.millimetres.specs.declared.Unmoved.TheVariants.{NotFinite, OutOfReach}
 use Rattle.millimetres.proofs.FloatsInUnits.{units_in}
 use Rattle.millimetres.proofs.MoveCases.{moved_by, settled_by}
 use Rattle.rings.specs.Verdict.{after}
 use Rattle.rings.specs.declared.Refusal.{Refusal}
 use Rattle.rings.specs.declared.Refusal.TheVariants as refusal
-use Rattle.rings.specs.declared.Verdict.{Verdict}
-use Rattle.rings.specs.declared.Verdict.TheVariants.{Accepted, Refused}
 use Rattle.move_plan.specs.Plan.{Near, Fair, opened_plan, current_point, noted_in, refused_in, result_in, taken_in, step_of, walk_of}
 use Rattle.move_plan.specs.declared.Move.{Move}
 use Rattle.move_plan.specs.declared.Entry.{Entry}
 use Rattle.move_plan.specs.declared.Plan.{Plan}
+use Rattle.rings.specs.Refusal.{Verdict}
+use Rattle.std.specs.Prelude.{Ok, Err}
 
 three : (a b c : Bool) → a && b && c ≡ true → T a × (T b × T c)
 three true true true e = (tt, (tt, tt))
@@ -39,19 +40,19 @@ three true false c e = absurd (true_not_false e refl)
 three false b c e = absurd (true_not_false e refl)
 
 -- what a move gives is in the range
-settled_near : (m : Mm) (b : Bool) → inside m.x && inside m.y && inside m.z ≡ b → (q : Point) → settled_at m ≡ At q → Near q
+settled_near : (m : Mm) (b : Bool) → inside m.x && inside m.y && inside m.z ≡ b → (q : Point) → settled_at m ≡ Ok q → Near q
 settled_near m true e q h =
     let i = three (inside m.x) (inside m.y) (inside m.z) e in
-    let g : At (record { x = units_of m.x; y = units_of m.y; z = units_of m.z }) ≡ At q = sym (settled_by m true e) ∙ h in
+    let g : Ok (record { x = units_of m.x; y = units_of m.y; z = units_of m.z }) ≡ Ok q = sym (settled_by m true e) ∙ h in
     let k : record { x = units_of m.x; y = units_of m.y; z = units_of m.z } ≡ q = cc in
     subst Near k (record { x = units_in m.x i.0; y = units_in m.y i.1.0; z = units_in m.z i.1.1 })
-settled_near m false e q h = let g : OutOfReach ≡ At q = sym (settled_by m false e) ∙ h in absurd (let z : ◌≡◌ {A = ℕ} 0 1 = cc in omega arith)
+settled_near m false e q h = let g : Err OutOfReach ≡ Ok q = sym (settled_by m false e) ∙ h in absurd (let z : ◌≡◌ {A = ℕ} 0 1 = cc in omega arith)
 
-moved_near_by : (p : Mm) (c : Change) (b : Bool) → fit c ≡ b → (q : Point) → moved_to p c ≡ At q → Near q
+moved_near_by : (p : Mm) (c : Change) (b : Bool) → fit c ≡ b → (q : Point) → moved_to p c ≡ Ok q → Near q
 moved_near_by p c true e q h = settled_near (changed_by p c) (inside (changed_by p c).x && inside (changed_by p c).y && inside (changed_by p c).z) refl q (sym (moved_by p c true e) ∙ h)
-moved_near_by p c false e q h = let g : NotFinite ≡ At q = sym (moved_by p c false e) ∙ h in absurd (let z : ◌≡◌ {A = ℕ} 0 1 = cc in omega arith)
+moved_near_by p c false e q h = let g : Err NotFinite ≡ Ok q = sym (moved_by p c false e) ∙ h in absurd (let z : ◌≡◌ {A = ℕ} 0 1 = cc in omega arith)
 
-pub moved_near : (p : Mm) (c : Change) (q : Point) → moved_to p c ≡ At q → Near q
+pub moved_near : (p : Mm) (c : Change) (q : Point) → moved_to p c ≡ Ok q → Near q
 moved_near p c q h = moved_near_by p c (fit c) refl q h
 
 pub opened_fair : (n : ℕ) (r : Verdict) → Fair (opened_plan n r)
@@ -82,10 +83,10 @@ module _ (s : Plan) (f : Fair s) (room : s.taken < 64) (v : ℕ) (low : v < s.co
     near = λ k h d. ⊎_elim (λ e. subst (λ (x : Entry). Near x.point) (sym e.1) (f.near k e.0 d)) (λ e. subst (λ (x : Entry). Near x.point) (sym e) near) (entry_is k h d);
   }
 
-result_fair : (s : Plan) → Fair s → s.taken < 64 → (v : ℕ) → v < s.count → (g : Moved) → ((q : Point) → g ≡ At q → Near q) → Fair (result_in s v g)
-result_fair s f room v low (At q) near = noted_fair s f room v low q (near q refl)
-result_fair s f room v low NotFinite near = refused_fair s (refusal.NotFinite s.taken) f
-result_fair s f room v low OutOfReach near = refused_fair s (refusal.OutOfReach s.taken) f
+result_fair : (s : Plan) → Fair s → s.taken < 64 → (v : ℕ) → v < s.count → (g : Result Point Unmoved) → ((q : Point) → g ≡ Ok q → Near q) → Fair (result_in s v g)
+result_fair s f room v low (Ok q) near = noted_fair s f room v low q (near q refl)
+result_fair s f room v low (Err NotFinite) near = refused_fair s (refusal.NotFinite s.taken) f
+result_fair s f room v low (Err OutOfReach) near = refused_fair s (refusal.OutOfReach s.taken) f
 
 module _ (ps : List ℤ) (s : Plan) (m : Move) (f : Fair s) where
   below_by : (b : Bool) → leb s.count m.vertex ≡ b → s.taken < 64 → Fair (cond b (refused_in s (refusal.NoSuchVertex s.taken)) (taken_in ps s m))
@@ -99,8 +100,8 @@ module _ (ps : List ℤ) (s : Plan) (m : Move) (f : Fair s) where
 
   verdict_by : (r : Verdict) → Fair (after r (cond (leb 64 s.taken) s (cond (leb s.count m.vertex) (refused_in s (refusal.NoSuchVertex s.taken)) (taken_in ps s m))) s)
   unfolding after
-  verdict_by Accepted = room_by (leb 64 s.taken) refl
-  verdict_by (Refused r) = f
+  verdict_by (Ok u) = room_by (leb 64 s.taken) refl
+  verdict_by (Err r) = f
 
   pub step_fair : Fair (step_of ps s m)
   unfolding step_of
@@ -117,19 +118,19 @@ walk_fair ps ms n r = walk_fair_from ps ms (opened_plan n r) (opened_fair n r)
 
 -- ---- it is a plan for the same vertices
 
-result_count : (s : Plan) (v : ℕ) (g : Moved) → (result_in s v g).count ≡ s.count
+result_count : (s : Plan) (v : ℕ) (g : Result Point Unmoved) → (result_in s v g).count ≡ s.count
 unfolding noted_in refused_in
-result_count s v (At q) = refl
-result_count s v NotFinite = refl
-result_count s v OutOfReach = refl
+result_count s v (Ok q) = refl
+result_count s v (Err NotFinite) = refl
+result_count s v (Err OutOfReach) = refl
 
 module _ (ps : List ℤ) (s : Plan) (m : Move) where
   count_by : (r : Verdict) (a b : Bool) → (after r (cond a s (cond b (refused_in s (refusal.NoSuchVertex s.taken)) (taken_in ps s m))) s).count ≡ s.count
   unfolding after refused_in taken_in
-  count_by (Refused r) a b = refl
-  count_by Accepted true b = refl
-  count_by Accepted false true = refl
-  count_by Accepted false false = result_count s m.vertex (moved_to (mm_of (current_point ps s m.vertex)) m.change)
+  count_by (Err r) a b = refl
+  count_by (Ok u) true b = refl
+  count_by (Ok u) false true = refl
+  count_by (Ok u) false false = result_count s m.vertex (moved_to (mm_of (current_point ps s m.vertex)) m.change)
 
   step_count : (step_of ps s m).count ≡ s.count
   unfolding step_of

@@ -3,31 +3,25 @@
 use mathlib.Core.Path.{◌≡◌, refl, sym, ap, ◌∙◌}
 use mathlib.Core.Bool.{Bool, true, false, cond}
 use mathlib.Core.List.{List, [], ◌∷◌, ◌++◌}
-use Prim.Native.Nat.{ℕ, ◌+◌, ◌*◌, ◌<◌, ◌≤◌}
+use Prim.Native.Nat.{ℕ, ◌+◌, ◌<◌, ◌≤◌}
 use native.Mathlib.Numerals.{add-one}
 use native.Mathlib.Omega.{arith}
-use borrow.Author.Tests.{lt-ltb, le-ltb, le-leb, lt-leb, eq-eqb, ne_eqb}
+use borrow.Author.Tests.{le-leb, lt-leb, eq-eqb, ne_eqb}
 use lib.Dec.{eqb}
 use lib.IntN.{ℤ}
 use lib.ListN.{length, take, get_or}
 use lib.Seq.{take-suc}
 use Rattle.units.specs.Coordinate.{beyond}
-use Rattle.millimetres.specs.Millimetres.{mm_of}
-use Rattle.millimetres.specs.Move.{moved_to}
-use Rattle.millimetres.specs.declared.Mm.{Mm}
 use Rattle.units.specs.declared.Point.{Point}
-use Rattle.millimetres.specs.declared.Moved.{Moved}
-use Rattle.millimetres.specs.declared.Moved.TheVariants.{At, NotFinite, OutOfReach}
-use Rattle.rings.specs.Table.{point_at}
 use Rattle.rings.specs.Verdict.{after}
 use Rattle.rings.specs.declared.Refusal.{Refusal}
 use Rattle.rings.specs.declared.Refusal.TheVariants as refusal
-use Rattle.rings.specs.declared.Verdict.TheVariants.{Accepted, Refused}
 use Rattle.rings.proofs.Checks.{within}
-use Rattle.move_plan.specs.Plan.{Near, origin, planned, read_point, kept_point, latest_point, current_point, noted_in, refused_in, result_in, taken_in, step_of}
+use Rattle.move_plan.specs.Plan.{Near, origin, kept_point, latest_point, refused_in, taken_in, step_of}
 use Rattle.move_plan.specs.declared.Move.{Move}
 use Rattle.move_plan.specs.declared.Entry.{Entry}
 use Rattle.move_plan.specs.declared.Plan.{Plan}
+use Rattle.std.specs.Prelude.{Ok, Err}
 
 pub latest_append : (es : List Entry) (e : Entry) (v : ℕ) (p : Point) → latest_point (es ++ (e ∷ [])) v p ≡ cond (eqb e.vertex v) e.point (latest_point es v p)
 unfolding latest_point
@@ -44,16 +38,6 @@ module _ (es : List Entry) (k v : ℕ) (p q : Point) (d : Entry) (h : k < length
 
   pub latest_miss : ((get_or es k d).vertex ≡ v → ⊥) → q ≡ latest_point (take (k + 1) es) v p
   latest_miss e = sym (latest_more ∙ ap (λ (b : Bool). cond b (get_or es k d).point q) (ne_eqb _ _ e))
-
--- a point read out of the table
-module _ (ps : List ℤ) (v : ℕ) where
-  pub read_there : v * 3 + 2 < length ps → point_at ps v ≡ read_point ps v
-  unfolding read_point
-  read_there h = rw (lt-ltb _ _ h)
-
-  pub read_behind : length ps ≤ v * 3 + 2 → origin ≡ read_point ps v
-  unfolding read_point
-  read_behind h = rw (le-ltb _ _ h)
 
 -- a point that is kept, by its coordinates
 module _ (p : Point) where
@@ -86,33 +70,13 @@ kept_by p false false false ea eb ec = rw (← kept_self p ea eb ec) (record { x
 pub kept_near : (p q : Point) → q ≡ kept_point p → Near q
 kept_near p q e = rw e (kept_by p (beyond p.x) (beyond p.y) (beyond p.z) refl refl refl)
 
--- a move of a vertex of the mesh, by what it gives
-module _ (ps : List ℤ) (s : Plan) (m : Move) (a b p : Point) (mm : Mm) (r : Moved) (ea : a ≡ read_point ps m.vertex) (eb : b ≡ latest_point (take s.taken s.entries) m.vertex a)
-    (ep : p ≡ kept_point b) (em : mm ≡ mm_of p) (er : r ≡ moved_to mm m.change) (t : Plan) where
-  gives : r ≡ moved_to (mm_of (current_point ps s m.vertex)) m.change
-  unfolding current_point planned
-  gives = rw (er, em, ep, eb, ea)
-
-  taken_by : (g : Moved) → r ≡ g → t ≡ result_in s m.vertex g → t ≡ taken_in ps s m
-  unfolding taken_in
-  taken_by g e h = h ∙ ap (result_in s m.vertex) (sym e ∙ gives)
-
-  pub taken_at_lem : (q : Point) → r ≡ At q → t ≡ noted_in s m.vertex q → t ≡ taken_in ps s m
-  taken_at_lem q e h = taken_by (At q) e h
-
-  pub taken_unfit : r ≡ NotFinite → t ≡ refused_in s (refusal.NotFinite s.taken) → t ≡ taken_in ps s m
-  taken_unfit e h = taken_by NotFinite e h
-
-  pub taken_outside : r ≡ OutOfReach → t ≡ refused_in s (refusal.OutOfReach s.taken) → t ≡ taken_in ps s m
-  taken_outside e h = taken_by OutOfReach e h
-
 -- a step, by its cases
 module _ (ps : List ℤ) (s : Plan) (m : Move) where
-  pub step_refused : (r : Refusal) → s.verdict ≡ Refused r → s ≡ step_of ps s m
+  pub step_refused : (r : Refusal) → s.verdict ≡ Err r → s ≡ step_of ps s m
   unfolding step_of after
   step_refused r e = rw e
 
-  module _ (e : s.verdict ≡ Accepted) where
+  module _ (e : s.verdict ≡ (Ok tt)) where
     pub step_full : 64 ≤ s.taken → s ≡ step_of ps s m
     unfolding step_of after
     step_full h = rw (e, le-leb 64 s.taken h)

@@ -1,9 +1,9 @@
 -- How far a list is looked at: no further once the plan is refused, and to its 64th move at most. What stands behind changes nothing:
 --     walk_stops       the moves that are left where the walk stops leave the plan as it is
 -- Assumes nothing.
-use mathlib.Core.Path.{◌≡◌, refl, sym, ap, subst, ◌∙◌}
+use mathlib.Core.Path.{◌≡◌, refl, ap, subst}
 use mathlib.Core.Bool.{Bool, true, false, cond}
-use mathlib.Core.List.{List, [], ◌∷◌}
+use mathlib.Core.List.{List, []}
 use mathlib.Core.Logic.{⊎_elim}
 use Prim.Native.Nat.{ℕ, ◌+◌, ◌≤◌, ◌<◌}
 use native.Mathlib.Omega.{arith}
@@ -13,41 +13,40 @@ use lib.IntN.{ℤ}
 use Rattle.mesh.proofs.Lists.{le_split}
 use Rattle.millimetres.specs.Millimetres.{mm_of}
 use Rattle.millimetres.specs.Move.{moved_to}
-use Rattle.millimetres.specs.declared.Moved.{Moved}
-use Rattle.millimetres.specs.declared.Moved.TheVariants.{At, NotFinite, OutOfReach}
+use Rattle.millimetres.specs.declared.Unmoved.{Unmoved}
+use Rattle.millimetres.specs.declared.Unmoved.TheVariants.{NotFinite, OutOfReach}
+use Rattle.units.specs.declared.Point.{Point}
 use Rattle.rings.specs.Verdict.{after}
 use Rattle.rings.specs.declared.Refusal.{Refusal}
 use Rattle.rings.specs.declared.Refusal.TheVariants as refusal
-use Rattle.rings.specs.declared.Verdict.{Verdict}
-use Rattle.rings.specs.declared.Verdict.TheVariants.{Accepted, Refused}
 use Rattle.move_plan.specs.Plan.{current_point, noted_in, refused_in, result_in, taken_in, step_of, ahead_of, walk_of}
 use Rattle.move_plan.specs.declared.Move.{Move}
 use Rattle.move_plan.specs.declared.Plan.{Plan}
 use Rattle.move_plan.proofs.Plans.{step_refused, step_full, step_unknown, step_taken}
-
-pub not_both : {A : Type 0} (a : Verdict) (r : Refusal) → a ≡ Accepted → a ≡ Refused r → A
-not_both a r p q = absurd (let z : ◌≡◌ {A = ℕ} 0 1 = cc in omega arith)
+use Rattle.rings.specs.Refusal.{Verdict}
+use Rattle.std.specs.Prelude.{Result, Ok, Err}
+use Rattle.move_plan.proofs.Walks.{not_both, walk_refused, walk_full}
 
 -- ---- how far a list is looked at
 
 module _ (s : Plan) (moves : ℕ) where
-  pub ahead_none : (r : Refusal) → s.verdict ≡ Refused r → 0 ≡ ahead_of s moves
+  pub ahead_none : (r : Refusal) → s.verdict ≡ Err r → 0 ≡ ahead_of s moves
   unfolding ahead_of after
   ahead_none r e = rw e
 
-  pub ahead_most : s.verdict ≡ Accepted → 64 < moves → 64 ≡ ahead_of s moves
+  pub ahead_most : s.verdict ≡ (Ok tt) → 64 < moves → 64 ≡ ahead_of s moves
   unfolding ahead_of after
   ahead_most e h = rw (e, lt-ltb 64 moves h)
 
-  pub ahead_all : s.verdict ≡ Accepted → moves ≤ 64 → moves ≡ ahead_of s moves
+  pub ahead_all : s.verdict ≡ (Ok tt) → moves ≤ 64 → moves ≡ ahead_of s moves
   unfolding ahead_of after
   ahead_all e h = rw (e, le-ltb 64 moves h)
 
   below_by : (v : Verdict) (b : Bool) → ltb 64 moves ≡ b → after v (cond b 64 moves) 0 ≤ moves
   unfolding after
-  below_by (Refused r) b e = omega arith
-  below_by Accepted true e = let h = ltb-true 64 moves e in omega arith
-  below_by Accepted false e = omega arith
+  below_by (Err r) b e = omega arith
+  below_by (Ok u) true e = let h = ltb-true 64 moves e in omega arith
+  below_by (Ok u) false e = omega arith
 
   pub ahead_below : ahead_of s moves ≤ moves
   unfolding ahead_of
@@ -55,9 +54,9 @@ module _ (s : Plan) (moves : ℕ) where
 
   few_by : (v : Verdict) (b : Bool) → ltb 64 moves ≡ b → after v (cond b 64 moves) 0 ≤ 64
   unfolding after
-  few_by (Refused r) b e = omega arith
-  few_by Accepted true e = omega arith
-  few_by Accepted false e = ltb-false 64 moves e
+  few_by (Err r) b e = omega arith
+  few_by (Ok u) true e = omega arith
+  few_by (Ok u) false e = ltb-false 64 moves e
 
   ahead_few : ahead_of s moves ≤ 64
   unfolding ahead_of
@@ -65,35 +64,23 @@ module _ (s : Plan) (moves : ℕ) where
 
 -- an accepted plan after i moves has taken as many
 abbrev pub Counted : ℕ → Plan → Type 0
-Counted i s = s.verdict ≡ Accepted → i ≤ s.taken
+Counted i s = s.verdict ≡ (Ok tt) → i ≤ s.taken
 
 module _ (ps : List ℤ) where
-  -- ---- a plan that is refused or full stays
-
-  pub walk_refused : (ms : List Move) (s : Plan) (r : Refusal) → s.verdict ≡ Refused r → walk_of ps ms s ≡ s
-  unfolding walk_of
-  walk_refused [] s r e = refl
-  walk_refused (m ∷ ms) s r e = ap (walk_of ps ms) (sym (step_refused ps s m r e)) ∙ walk_refused ms s r e
-
-  walk_full : (ms : List Move) (s : Plan) → s.verdict ≡ Accepted → 64 ≤ s.taken → walk_of ps ms s ≡ s
-  unfolding walk_of
-  walk_full [] s e h = refl
-  walk_full (m ∷ ms) s e h = ap (walk_of ps ms) (sym (step_full ps s m e h)) ∙ walk_full ms s e h
-
   -- ---- after i moves, an accepted plan has taken as many
 
   refused_counted : (i : ℕ) (s : Plan) (r : Refusal) → Counted i (refused_in s r)
   unfolding refused_in
-  refused_counted i s r q = not_both (Refused r) r q refl
+  refused_counted i s r q = not_both (Err r) r q refl
 
-  result_counted : (i : ℕ) (s : Plan) (v : ℕ) (g : Moved) → i ≤ s.taken → Counted (i + 1) (result_in s v g)
+  result_counted : (i : ℕ) (s : Plan) (v : ℕ) (g : Result Point Unmoved) → i ≤ s.taken → Counted (i + 1) (result_in s v g)
   unfolding noted_in
-  result_counted i s v (At p) h q = omega arith
-  result_counted i s v NotFinite h q = refused_counted (i + 1) s (refusal.NotFinite s.taken) q
-  result_counted i s v OutOfReach h q = refused_counted (i + 1) s (refusal.OutOfReach s.taken) q
+  result_counted i s v (Ok p) h q = omega arith
+  result_counted i s v (Err NotFinite) h q = refused_counted (i + 1) s (refusal.NotFinite s.taken) q
+  result_counted i s v (Err OutOfReach) h q = refused_counted (i + 1) s (refusal.OutOfReach s.taken) q
 
   module _ (i : ℕ) (s : Plan) (m : Move) where
-    room_counted : s.verdict ≡ Accepted → s.taken < 64 → i ≤ s.taken → Counted (i + 1) (step_of ps s m)
+    room_counted : s.verdict ≡ (Ok tt) → s.taken < 64 → i ≤ s.taken → Counted (i + 1) (step_of ps s m)
     unfolding taken_in
     room_counted e l h = ⊎_elim
         (λ u. subst (Counted (i + 1)) (step_unknown ps s m e l _ u.1 refl) (refused_counted (i + 1) s (refusal.NoSuchVertex s.taken)))
@@ -103,8 +90,8 @@ module _ (ps : List ℤ) where
         (le_split s.count m.vertex)
 
     step_by : (v : Verdict) → s.verdict ≡ v → i < 64 → Counted i s → Counted (i + 1) (step_of ps s m)
-    step_by (Refused r) e l c = subst (Counted (i + 1)) (step_refused ps s m r e) (λ q. not_both s.verdict r q e)
-    step_by Accepted e l c = ⊎_elim
+    step_by (Err r) e l c = subst (Counted (i + 1)) (step_refused ps s m r e) (λ q. not_both s.verdict r q e)
+    step_by (Ok u) e l c = ⊎_elim
         (λ u. subst (Counted (i + 1)) (step_full ps s m e u.1) (λ q. omega (arith, u.1)))
         (λ u. room_counted e u.1 (c e))
         (le_split 64 s.taken)
@@ -121,9 +108,9 @@ module _ (ps : List ℤ) where
 
     stops_by : (v : Verdict) (b : Bool) → s.verdict ≡ v → after v (cond b 64 moves) 0 ≤ i → walk_of ps rest s ≡ s
     unfolding after
-    stops_by (Refused r) b e h = walk_refused rest s r e
-    stops_by Accepted true e h = let l = c e in walk_full rest s e (omega arith)
-    stops_by Accepted false e h = ended h
+    stops_by (Err r) b e h = walk_refused ps rest s r e
+    stops_by (Ok u) true e h = let l = c e in walk_full ps rest s e (omega arith)
+    stops_by (Ok u) false e h = ended h
 
     pub walk_stops : ahead_of s moves ≤ i → walk_of ps rest s ≡ s
     unfolding ahead_of

@@ -1,18 +1,17 @@
 -- To be believed.
 -- "They work in order; a vertex named twice starts its second move from the first's result, rounded to units." Nothing is written before the last move is accepted.
 -- Assumes nothing.
-use Rattle.std.specs.Prelude.{Bool, false, cond, ◌||◌, List, [], ◌∷◌, ℕ, suc, ◌*◌, leb, eqb, ℤ}
+use Rattle.std.specs.Prelude.{Bool, false, cond, ◌||◌, List, [], ◌∷◌, ℕ, suc, ◌*◌, leb, eqb, ℤ, Result, Ok, Err}
 use Rattle.millimetres.specs.Millimetres.{mm_of}
 use Rattle.millimetres.specs.Move.{moved_to}
 use Rattle.units.specs.declared.Point.{Point}
-use Rattle.millimetres.specs.declared.Moved.{Moved}
-use Rattle.millimetres.specs.declared.Moved.TheVariants.{At, NotFinite, OutOfReach}
+use Rattle.millimetres.specs.declared.Unmoved.{Unmoved}
+use Rattle.millimetres.specs.declared.Unmoved.TheVariants.{NotFinite, OutOfReach}
 use Rattle.rings.specs.Table.{put, point_at}
 use Rattle.rings.specs.declared.Refusal.{Refusal}
 use Rattle.rings.specs.declared.Refusal.TheVariants as refusal
-use Rattle.rings.specs.declared.Verdict.{Verdict}
-use Rattle.rings.specs.declared.Verdict.TheVariants.{Accepted, Refused}
 use Rattle.move_plan.specs.declared.Move.{Move}
+use Rattle.rings.specs.Refusal.{Verdict}
 
 -- the pending control points, or why a move was refused
 pub data Pending : Type 0 where
@@ -24,10 +23,10 @@ unfoldable pub placed : List ℤ → ℕ → Point → List ℤ
 placed ps v p = put ps (v * 3) (p.x ∷ p.y ∷ p.z ∷ [])
 
 -- what a move at list place i makes of them
-abbrev pub settle : List ℤ → ℕ → ℕ → Moved → Pending
-settle ps v i (At p) = pending (placed ps v p)
-settle ps v i NotFinite = stopped (refusal.NotFinite i)
-settle ps v i OutOfReach = stopped (refusal.OutOfReach i)
+abbrev pub settle : List ℤ → ℕ → ℕ → Result Point Unmoved → Pending
+settle ps v i (Ok p) = pending (placed ps v p)
+settle ps v i (Err NotFinite) = stopped (refusal.NotFinite i)
+settle ps v i (Err OutOfReach) = stopped (refusal.OutOfReach i)
 
 -- one move of a control mesh of n vertices: 3, 13, 14; none once a move was refused
 unfoldable pub step : ℕ → Pending → Move → ℕ → Pending
@@ -46,8 +45,8 @@ named (m ∷ ms) v = eqb m.vertex v || named ms v
 
 -- what a list of moves answers
 abbrev pub pending_verdict : Pending → Verdict
-pending_verdict (pending ps) = Accepted
-pending_verdict (stopped r) = Refused r
+pending_verdict (pending ps) = (Ok tt)
+pending_verdict (stopped r) = Err r
 
 -- the control points after it
 abbrev pub pending_points : Pending → List ℤ → List ℤ

@@ -2,24 +2,23 @@
 -- How a list of moves is worked out before anything is written: a plan by value, and one move after the other. Section "Moves", reasons 3, 13 and 14.
 -- What it means for the control points stands in `Moves`; a law ties the two for positions that the check accepts.
 -- Assumes nothing.
-use Rattle.std.specs.Prelude.{Bool, false, cond, ◌||◌, ◌≡◌, List, [], ◌∷◌, ℕ, ◌+◌, ◌*◌, ◌≤◌, ◌<◌, leb, ltb, eqb, ℤ, pos, length, get_or, take, set, replicate}
+use Rattle.std.specs.Prelude.{Bool, true, false, cond, ◌||◌, ◌≡◌, List, [], ◌∷◌, ℕ, ◌+◌, ◌*◌, ◌≤◌, ◌<◌, leb, ltb, eqb, ℤ, pos, length, get_or, take, set, replicate, Result, Ok, Err}
 use Rattle.mesh.specs.Limits.{most_moves}
 use Rattle.units.specs.Coordinate.{InRange, beyond}
 use Rattle.millimetres.specs.Millimetres.{mm_of}
 use Rattle.millimetres.specs.Move.{moved_to}
 use Rattle.units.specs.declared.Point.{Point}
-use Rattle.millimetres.specs.declared.Moved.{Moved}
-use Rattle.millimetres.specs.declared.Moved.TheVariants.{At, NotFinite, OutOfReach}
+use Rattle.millimetres.specs.declared.Unmoved.{Unmoved}
+use Rattle.millimetres.specs.declared.Unmoved.TheVariants.{NotFinite, OutOfReach}
 use Rattle.rings.specs.Table.{point_at}
 use Rattle.rings.specs.Verdict.{after}
 use Rattle.rings.specs.declared.Refusal.{Refusal}
 use Rattle.rings.specs.declared.Refusal.TheVariants as refusal
-use Rattle.rings.specs.declared.Verdict.{Verdict}
-use Rattle.rings.specs.declared.Verdict.TheVariants.{Accepted, Refused}
 use Rattle.move_plan.specs.Moves.{placed}
 use Rattle.move_plan.specs.declared.Move.{Move}
 use Rattle.move_plan.specs.declared.Entry.{Entry}
 use Rattle.move_plan.specs.declared.Plan.{Plan}
+use Rattle.rings.specs.Refusal.{Verdict}
 
 -- the point that stands in for one that cannot be read
 abbrev pub origin : Point
@@ -83,17 +82,17 @@ current_point ps s v = kept_point (latest_point (planned s) v (read_point ps v))
 
 -- the plan with an entry more
 unfoldable pub noted_in : Plan → ℕ → Point → Plan
-noted_in s v p = record { count = s.count; verdict = Accepted; taken = s.taken + 1; entries = set s.entries s.taken (record { vertex = v; point = p }) }
+noted_in s v p = record { count = s.count; verdict = (Ok tt); taken = s.taken + 1; entries = set s.entries s.taken (record { vertex = v; point = p }) }
 
 -- the plan, refused
 unfoldable pub refused_in : Plan → Refusal → Plan
-refused_in s r = record { count = s.count; verdict = Refused r; taken = s.taken; entries = s.entries }
+refused_in s r = record { count = s.count; verdict = Err r; taken = s.taken; entries = s.entries }
 
 -- the plan after a move that gives this
-abbrev pub result_in : Plan → ℕ → Moved → Plan
-result_in s v (At p) = noted_in s v p
-result_in s v NotFinite = refused_in s (refusal.NotFinite s.taken)
-result_in s v OutOfReach = refused_in s (refusal.OutOfReach s.taken)
+abbrev pub result_in : Plan → ℕ → Result Point Unmoved → Plan
+result_in s v (Ok p) = noted_in s v p
+result_in s v (Err NotFinite) = refused_in s (refusal.NotFinite s.taken)
+result_in s v (Err OutOfReach) = refused_in s (refusal.OutOfReach s.taken)
 
 -- 13, 14, or an entry
 unfoldable pub taken_in : List ℤ → Plan → Move → Plan
@@ -111,6 +110,10 @@ step_of ps s m =
 -- how far a list of so many moves is looked at, by the plan reached: no further once it is refused, and to the 64th move at most
 unfoldable pub ahead_of : Plan → ℕ → ℕ
 ahead_of s moves = after s.verdict (cond (ltb most_moves moves) most_moves moves) 0
+
+-- no further move is looked at: one was refused, or the plan is full
+unfoldable pub over : Plan → Bool
+over s = after s.verdict (leb most_moves s.taken) true
 
 -- the moves in order
 unfoldable pub walk_of : List ℤ → List Move → Plan → Plan

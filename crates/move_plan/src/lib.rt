@@ -5,7 +5,7 @@ pub mod list;
 
 use mesh::limits::MOST_MOVES;
 use millimetres::Change;
-use rings::Verdict;
+use rings::Refusal;
 use units::Point;
 
 // A move, for one control vertex.
@@ -26,7 +26,7 @@ pub struct Entry {
 #[derive(Clone, Copy)]
 pub struct Plan {
     pub count: usize,
-    pub verdict: Verdict,
+    pub verdict: Result<(), Refusal>,
     pub taken: usize,
     pub entries: [Entry; MOST_MOVES],
 }

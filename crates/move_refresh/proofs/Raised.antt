@@ -11,7 +11,7 @@ use lib.IntN.{ℤ, pos, sub_ℕ}
 use lib.ListN.{length, take, drop, length-drop}
 use lib.Seq.{get_or-drop}
 use borrow.Rule.Slice.PartMut.{put_mid}
-use Rattle.mesh.specs.Limits.{most_units, most_vertices, edge_bound}
+use Rattle.mesh.specs.Limits.{most_units, most_vertices, stack_bound}
 use Rattle.mesh.specs.Search.{sum}
 use Rattle.mesh.specs.Mesh.{Mesh, Sound, edges, faces}
 use Rattle.mesh.proofs.Faces.{three_faces}
@@ -65,6 +65,13 @@ pub record Raised (n : ℕ) (t : Lent) (ps₀ : List ℤ) (map₀ : List ℕ) (k
   pub behind : (i : ℕ) → sum (λ j. (level (rows n t) j).count) (suc k) ≤ i → marked map i ≡ marked map₀ i
   pub points : ps ≡ refreshed_positions n t (marked map₀) ps₀ k
 
+-- a level begins in the tables
+pub record Begins (t : Lent) (ps : List ℤ) (l : Level) : Type 0 where
+  pub small : l.start ≤ stack_bound
+  pub valences : l.start ≤ length t.valences
+  pub rings : l.start * 32 ≤ length t.rings
+  pub points : l.start * 3 ≤ length ps
+
 pub raised_none : (n e : ℕ) (t : Lent) (ps : List ℤ) (map : List ℕ) → e ≡ edges (rows n t)
     → (below : Level) → below ≡ level_at (closed_sizes n e) 0 → Raised n t ps map 0 below map ps
 unfolding level rows refreshed_positions touched
@@ -104,10 +111,6 @@ module _ {n e levels : ℕ} {t : Lent} {ps₀ : List ℤ} (R : StackReady n e le
   sizes_suc : (k : ℕ) → sizes_of (size (suc k)) (level M (suc k)) ≡ loop_sizes (sizes_of (size k) (level M k))
   unfolding level
   sizes_suc k = refine_sizes (level M k) (level_sound M S k)
-
-  -- no more edges than a level has vertices
-  pub edges_counted : e ≤ edge_bound
-  edges_counted = let f = R.accepted.fits 1 R.accepted.low in let c = R.counted in omega arith
 
   size_most : (k : ℕ) → k ≤ levels → size k ≤ most_vertices
   unfolding rows
@@ -161,6 +164,21 @@ module _ {n e levels : ℕ} {t : Lent} {ps₀ : List ℤ} (R : StackReady n e le
     room : (k : ℕ) → k ≤ levels → sum size (suc k) * 3 ≤ length ps₀
     room k l = let r = levels_room n levels t ps₀ R.accepted k l in let p = R.accepted.points in omega arith
 
+    raised_long : {k : ℕ} {below : Level} {map : List ℕ} {ps : List ℤ} → Raised n t ps₀ map₀ k below map ps → k ≤ levels → length ps ≡ length ps₀
+    raised_long {k} g h = ap length g.points ∙ P.positions_long n t before ps₀ k (room k h)
+
+    pub raised_begins : {k : ℕ} {below : Level} {map : List ℕ} {ps : List ℤ} → Raised n t ps₀ map₀ k below map ps → k ≤ levels → Begins t ps below
+    raised_begins {k} g h =
+        let a = g.start in
+        let c = starts_climb k (suc levels) (omega arith) in
+        let w = whole_small in
+        let v = whole_is in
+        let e = raised_long g h in
+        let x = R.accepted.room.valences in
+        let y = R.accepted.room.rings in
+        let z = R.accepted.points in
+        record { small = omega arith; valences = omega arith; rings = omega arith; points = omega arith }
+
     -- ---- one level more
 
     module _ {k : ℕ} {below : Level} {map : List ℕ} {ps : List ℤ} (g : Raised n t ps₀ map₀ k below map ps) (l : k < levels) where
@@ -196,17 +214,14 @@ module _ {n e levels : ℕ} {t : Lent} {ps₀ : List ℤ} (R : StackReady n e le
       abbrev part : List ℤ
       part = take (length ps - base * 3) (drop (base * 3) ps)
 
-      raised_long : length ps ≡ length ps₀
-      raised_long = ap length g.points ∙ P.positions_long n t before ps₀ k (room k (omega arith))
-
-      part_begins : base * 3 ≤ length ps
-      part_begins = let s = raised_sizes in let e = raised_long in let p = R.accepted.points in omega arith
+      starts : Begins t ps below
+      starts = raised_begins g (omega arith)
 
       part_length : length part ≡ length ps - base * 3
-      part_length = ap length (L.part_is ps (base * 3) part_begins) ∙ length-drop (base * 3) ps
+      part_length = ap length (L.part_is ps (base * 3) starts.points) ∙ length-drop (base * 3) ps
 
       part_at : (axis v : ℕ) → coordinate_at part axis v ≡ coordinate_at ps axis (base + v)
-      part_at axis v = ap (λ (o : List ℤ). coordinate_at o axis v) (L.part_is ps (base * 3) part_begins) ∙ point_part ps base axis v
+      part_at axis v = ap (λ (o : List ℤ). coordinate_at o axis v) (L.part_is ps (base * 3) starts.points) ∙ point_part ps base axis v
 
       -- this level's points, and what the next level holds
       point_here : (axis : ℕ) → axis < 3 → (v : ℕ) → v < size k → coordinate_at part axis v ≡ point axis k v
@@ -246,20 +261,11 @@ module _ {n e levels : ℕ} {t : Lent} {ps₀ : List ℤ} (R : StackReady n e le
       abbrev rings : List ℕ
       rings = take (length t.rings - base * 32) (drop (base * 32) t.rings)
 
-      begins : base ≤ length t.valences
-      begins = let s = raised_sizes in let r = R.accepted.room.valences in omega arith
-
-      rings_begin : base * 32 ≤ length t.rings
-      rings_begin = let s = raised_sizes in let r = R.accepted.room.rings in omega arith
-
-      pub raised_fits : (base + (count + (count + f)) ≤ 327675) × ((base ≤ length t.valences) × ((base * 32 ≤ length t.rings) × (base * 3 ≤ length ps)))
-      raised_fits = (raised_sizes.1, (begins, (rings_begin, part_begins)))
-
       valences_are : valences ≡ drop base t.valences
-      valences_are = L.part_is t.valences base begins
+      valences_are = L.part_is t.valences base starts.valences
 
       rings_are : rings ≡ drop (base * 32) t.rings
-      rings_are = L.part_is t.rings (base * 32) rings_begin
+      rings_are = L.part_is t.rings (base * 32) starts.rings
 
       ring_here : (x : ℕ) → ring_of (lent valences rings) x ≡ ring_of t (base + x)
       ring_here x = ap₂ (λ (a b : List ℕ). ring_of (lent a b) x) valences_are rings_are ∙ ring_part t base x
@@ -307,7 +313,7 @@ module _ {n e levels : ℕ} {t : Lent} {ps₀ : List ℤ} (R : StackReady n e le
           let x = R.accepted.room.valences in
           let y = R.accepted.room.rings in
           let z = R.accepted.points in
-          let w = raised_long in
+          let w = raised_long g (omega arith) in
           record {
             ready = record {
               room = record { valences = omega arith; rings = omega arith };
@@ -415,9 +421,6 @@ module _ {n e levels : ℕ} {t : Lent} {ps₀ : List ℤ} (R : StackReady n e le
               })
 
   -- ---- all levels done
-
-  pub raised_length : (map₀ : List ℕ) {k : ℕ} {below : Level} {map : List ℕ} {ps : List ℤ} → Raised n t ps₀ map₀ k below map ps → k ≤ levels → length ps ≡ length ps₀
-  raised_length map₀ {k} g l = ap length g.points ∙ P.positions_long n t (marked map₀) ps₀ k (room map₀ k l)
 
   pub raised_end : (map₀ : List ℕ) {k : ℕ} {below : Level} {map : List ℕ} {ps : List ℤ} → Raised n t ps₀ map₀ k below map ps → k ≡ levels
       → TouchedMarked n levels t (marked map₀) (marked map) × (ps ≡ refreshed_positions n t (marked map₀) ps₀ levels)

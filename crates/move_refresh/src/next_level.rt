@@ -104,6 +104,7 @@ pub fn refresh_next(
 {
     mark_next(map, valences, rings, base, count);
     let mut x = 0;
+    // A `while`, as one turn may pass many unmarked vertices.
     while x < above {
         let skip = clear_ahead(map, base + count + x, above - x);
         if skip == 0 {

@@ -25,8 +25,7 @@ pub fn refresh_levels(
     ensures positions_after { positions.new ≡ refreshed_positions count (lent valences.now rings.now) (marked map.old) positions.old levels }
 {
     let mut below = ground(count, edges);
-    let mut k = 0;
-    while k < levels {
+    for _ in 0..levels {
         let next = above(below);
         let base = below.start;
         refresh_next(
@@ -39,6 +38,5 @@ pub fn refresh_levels(
             next.vertices,
         );
         below = next;
-        k += 1;
     }
 }

@@ -45,23 +45,17 @@ dependents_last M v y l u =
       map_last (opposite M v) y l u,
     )
 
-module _ {base n : ℕ} {t : Lent} {before : List ℕ} (b : BothLevels base n t before) {v : ℕ} (h : v < n) {ring : List ℕ} (e : ring ≡ ring_of t v) {next : List ℕ}
-    (f : next ≡ ring_of t (n + v)) where
+module _ {base n : ℕ} {t : Lent} {before : List ℕ} (b : BothLevels base n t before) {v : ℕ} (h : v < n) where
   abbrev M : Mesh
   M = rows n t
 
-  module _ (i : ℕ) (l : i < length ring) where
-    abbrev u : ℕ
-    u = get_or ring i 0
-
-    abbrev x : ℕ
-    x = get_or next i 0
-
+  -- place i of the ring, where u stands, and x for the edge to u
+  module _ {i : ℕ} (l : i < length (ring_of t v)) {u x : ℕ} (e : u ≡ get_or (ring_of t v) i 0) (f : x ≡ get_or (ring_of t (n + v)) i 0) where
     u_in : u ∈ M.ring v
-    u_in = rw (rows_ring n t v h, ← e) (get_or_in ring i 0 l)
+    u_in = rw (rows_ring n t v h, e) (get_or_in (ring_of t v) i 0 l)
 
     x_is : x ≡ mid M v u
-    x_is = rw (f, e) (next_entry b.ready b.rings v h i (rw e at l))
+    x_is = rw (f, e) (next_entry b.ready b.rings v h i l)
 
     far_is : opposite_read t.rings n v u x ≡ opposite M v u
     far_is = rw x_is (opposite_is b.ready b.rings v h u u_in)
@@ -83,18 +77,18 @@ module _ {base n : ℕ} {t : Lent} {before : List ℕ} (b : BothLevels base n t 
         }
 
     -- one place more
-    pub place_more : (set : ℕ → Bool) {after now : ℕ → Bool} → after ≡ joined set (base + n) (dependents_by M v (take i ring))
-        → now ≡ joined after (base + n) (place_dependents t.rings n v u x) → now ≡ joined set (base + n) (dependents_by M v (take (i + 1) ring))
+    pub place_more : (set : ℕ → Bool) {after now : ℕ → Bool} → after ≡ joined set (base + n) (dependents_by M v (take i (ring_of t v)))
+        → now ≡ joined after (base + n) (place_dependents t.rings n v u x) → now ≡ joined set (base + n) (dependents_by M v (take (i + 1) (ring_of t v)))
     place_more set a c =
         c ∙ rw (a, far_is, x_is)
-        (joined_join set (base + n) (dependents_by M v (take (i + 1) ring)) (dependents_by M v (take i ring)) (u ∷ mid M v u ∷ opposite M v u ∷ [])
-        (λ y. rw (add-one i, take-suc ring i 0 l) (dependents_last M v y (take i ring) u)))
+        (joined_join set (base + n) (dependents_by M v (take (i + 1) (ring_of t v))) (dependents_by M v (take i (ring_of t v))) (u ∷ mid M v u ∷ opposite M v u ∷ [])
+        (λ y. rw (add-one i, take-suc (ring_of t v) i 0 l, ← e) (dependents_last M v y (take i (ring_of t v)) u)))
 
   -- all places
-  pub dependents_marked : (set : ℕ → Bool) {first after : ℕ → Bool} → first ≡ including set (base + n + v) → (i : ℕ) → length ring ≤ i
-      → after ≡ joined first (base + n) (dependents_by M v (take i ring)) → after ≡ joined set (base + n) (dependents M v)
+  pub dependents_marked : (set : ℕ → Bool) {first after : ℕ → Bool} → first ≡ including set (base + n + v) → {i : ℕ} → length (ring_of t v) ≤ i
+      → after ≡ joined first (base + n) (dependents_by M v (take i (ring_of t v))) → after ≡ joined set (base + n) (dependents M v)
   unfolding dependents old_ring
-  dependents_marked set {first} a i k c =
-      let whole : take i ring ≡ M.ring v = take_all i ring k ∙ e ∙ sym (rows_ring n t v h) in
+  dependents_marked set {first} a {i} k c =
+      let whole : take i (ring_of t v) ≡ M.ring v = take_all i (ring_of t v) k ∙ sym (rows_ring n t v h) in
       c ∙ rw (a, whole, including_is set (base + n) v)
       (joined_join set (base + n) (v ∷ dependents_by M v (M.ring v)) (v ∷ []) (dependents_by M v (M.ring v)) (λ y. omega arith))

@@ -64,18 +64,8 @@ fn mark_dependents(
     let ring = ring_of(valences, rings, t);
     let next = ring_of(valences, rings, count + t);
     mark(map, base + count + t);
-    let mut i = 0;
-    while i < ring.len() {
-        mark_place(
-            map,
-            rings,
-            base + count,
-            count,
-            t,
-            ring[i] as usize,
-            next[i] as usize,
-        );
-        i += 1;
+    for (u, x) in ring.iter().zip(next) {
+        mark_place(map, rings, base + count, count, t, *u as usize, *x as usize);
     }
 }
 
@@ -97,6 +87,7 @@ pub fn mark_next(map: &mut [u32], valences: &[u16], rings: &[Vertex], base: usiz
     ensures { marked map.new ≡ marks_up_to (rows count (lent valences.now rings.now)) base (marked map.old) (count + edges (rows count (lent valences.now rings.now))) }
 {
     let mut t = 0;
+    // A `while`, as one turn may pass many unmarked vertices.
     while t < count {
         let skip = clear_ahead(map, base + t, count - t);
         if skip == 0 {

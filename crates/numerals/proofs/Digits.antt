@@ -1,9 +1,9 @@
 -- The digits of a number: which they are, how many there are, and how long a number and a coordinate are with the byte behind them. Assumes nothing.
-use Prim.Native.Nat.{ℕ, zero, suc, ◌+◌, ◌-◌, ◌*◌, ◌/◌, ◌%◌, ◌≤◌, ◌<◌}
+use Prim.Native.Nat.{ℕ, zero, suc, ◌+◌, ◌*◌, ◌/◌, ◌%◌, ◌^◌, ◌≤◌, ◌<◌, max}
 use mathlib.Core.Path.{◌≡◌, refl, sym, ap, ◌∙◌}
 use mathlib.Core.Logic.{⊎_elim}
 use mathlib.Core.List.{List, [], ◌∷◌, ◌++◌}
-use native.Mathlib.Nat.{div-lt_iff_lt-mul, le-div_iff_mul-le, mod-eq_of_lt, add-suc, add-zero}
+use native.Mathlib.Nat.{div-lt_iff_lt-mul, le-div_iff_mul-le, mod-eq_of_lt, pow-suc}
 use native.Mathlib.Numerals.{add-one}
 use native.Mathlib.Omega.{arith}
 use borrow.Author.Tests.{lt-ltb, le-ltb}
@@ -23,13 +23,10 @@ unfolding tens
 tens_some zero = omega arith
 tens_some (suc k) = omega (arith, tens_some k)
 
-tens_more : (k d : ℕ) → tens k ≤ tens (k + d)
+tens_power : (k : ℕ) → tens k ≡ 10 ^ k
 unfolding tens
-tens_more k zero = rw (add-zero k) (omega arith)
-tens_more k (suc d) = rw (add-suc k d) (omega (arith, tens_more k d))
-
-tens_mono : (k j : ℕ) → k ≤ j → tens k ≤ tens j
-tens_mono k j h = let e : k + (j - k) ≡ j = omega arith in rw e at (tens_more k (j - k))
+tens_power zero = refl
+tens_power (suc k) = ap (λ (x : ℕ). x * 10) (tens_power k) ∙ sym (pow-suc 10 k)
 
 -- ---- one digit, or the digits of the tenth and one more
 
@@ -84,36 +81,18 @@ digits_least (suc j) (suc k) n h g =
     let big : 10 ≤ n = omega (arith, tens_some k) in
     omega (arith, length_big j n big, digits_least j k (n / 10) (omega arith) ((le-div_iff_mul-le (lit< tt)).1 g))
 
--- ---- counting them
-
--- n has at least `count` digits, and `bound` is the least number that has more
-pub record Counted (n count bound : ℕ) : Type 0 where
-  pub some : 1 ≤ count
-  pub most : count ≤ 19
-  pub is : bound ≡ tens count
-  pub least : count ≤ length (digits 20 n)
-
-pub counted_one : (n : ℕ) → Counted n 1 10
+by_logarithm : (n k : ℕ) → k < 20 → 10 ^ k ≤ n → n < 10 * 10 ^ k → k + 1 ≡ length (digits 20 n)
 unfolding tens
-counted_one n = record { some = omega arith; most = omega arith; is = refl; least = digits_some 19 n }
+by_logarithm n k f h g =
+    let e = tens_power k in
+    let more : n < tens (suc k) = omega arith in
+    omega (arith, digits_least 20 k n f (rw e h), digits_length 20 (suc k) n more (omega arith))
 
-module _ {n count bound : ℕ} (k : Counted n count bound) where
-  pub counted_fits : count < 19 → bound ≤ 1000000000000000000
-  unfolding tens
-  counted_fits h = omega (arith, k.is, tens_mono count 18 (omega arith))
-
-  pub counted_all : n < bound → count ≡ length (digits 20 n)
-  counted_all h = omega (arith, k.least, digits_length 20 count n (rw k.is at h) k.some)
-
-  more : bound ≤ n → count + 1 ≤ length (digits 20 n)
-  more h = digits_least 20 count n (omega (arith, k.most)) (rw k.is at h)
-
-  pub counted_more : count < 19 → bound ≤ n → Counted n (count + 1) (bound * 10)
-  unfolding tens
-  counted_more h g = record { some = omega arith; most = omega arith; is = rw (k.is, add-one count); least = more g }
-
-  pub counted_twenty : 19 ≤ count → bound ≤ n → count + 1 ≡ length (digits 20 n)
-  counted_twenty h g = omega (arith, k.most, more g, digits_most 20 n)
+-- one more than the logarithm; 0 has as many as 1
+pub digits_counted : (n m k : ℕ) → m ≡ max n 1 → k < 20 → 10 ^ k ≤ m → m < 10 * 10 ^ k → k + 1 ≡ length (digits 20 n)
+unfolding digits
+digits_counted zero m k e f h g = by_logarithm m k f h g ∙ ap (λ (x : ℕ). length (digits 20 x)) (let o : m ≡ 1 = omega arith in o)
+digits_counted (suc n) m k e f h g = by_logarithm m k f h g ∙ ap (λ (x : ℕ). length (digits 20 x)) (let o : m ≡ suc n = omega arith in o)
 
 -- ---- which they are
 

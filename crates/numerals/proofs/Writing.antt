@@ -2,7 +2,7 @@
 use Prim.Native.Nat.{ℕ, suc, ◌+◌, ◌-◌, ◌*◌, ◌≤◌, ◌<◌}
 use mathlib.Core.Path.{◌≡◌, refl, sym, ap, subst, ◌∙◌}
 use mathlib.Core.List.{List, [], ◌∷◌, ◌++◌}
-use native.Mathlib.Nat.{add-zero, suc-mul, le_antisymm}
+use native.Mathlib.Nat.{add-zero, suc-mul}
 use native.Mathlib.Numerals.{add-one}
 use native.Mathlib.Omega.{arith}
 use lib.ListN.{length, set, length-append}
@@ -47,14 +47,10 @@ wrote_wide {l} {m} {i} {k} {p} {a} most h w = record { put = w.put; ends = w.end
 
 -- ---- rows
 
--- one row more, and the last
+-- one row more
 pub rows_more : {l m n : List ℕ} {i k e : ℕ} (f : ℕ → List ℕ) (j most : ℕ) → Wrote l i (gather f j) m k (j * most) → Wrote m k (f j) n e most
     → Wrote l i (gather f (j + 1)) n e ((j + 1) * most)
 rows_more f j most v w = rw add-one (wrote_then (suc j * most) v w (let e = suc-mul j most in omega arith))
-
-pub rows_all : {l m : List ℕ} {i k : ℕ} (f : ℕ → List ℕ) (j n most : ℕ) → Wrote l i (gather f j) m k (j * most) → j ≤ n → n ≤ j
-    → Wrote l i (gather f n) m k (n * most)
-rows_all {l} {m} {i} {k} f j n most w a b = subst (λ (x : ℕ). Wrote l i (gather f x) m k (x * most)) (le_antisymm a b) w
 
 -- ---- numbers
 

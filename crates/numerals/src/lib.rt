@@ -9,15 +9,12 @@ ghost use Rattle.numerals.specs.Wrote.{Wrote};
 
 use file_format::bytes::bits_of;
 
-// The most digits that a number of 64 bits has.
-const MOST_DIGITS: usize = 20;
-
-const MINUS: u8 = 45;
+const MINUS: u8 = b'-';
 
 // What stands between numbers, and behind a line.
-pub const BLANK: u8 = 32;
+pub const BLANK: u8 = b' ';
 
-pub const NEWLINE: u8 = 10;
+pub const NEWLINE: u8 = b'\n';
 
 // Of the numbers of 32 bits, the lowest that stands for a negative coordinate, and how many there are.
 const LEAST_NEGATIVE: usize = 2147483648;
@@ -25,6 +22,7 @@ const LEAST_NEGATIVE: usize = 2147483648;
 const WHOLE: usize = 4294967296;
 
 // One byte.
+#[tactic(auto, using(crate::proofs::Writing::wrote_byte))]
 pub fn put_byte(text: &mut [u8], at: usize, byte: u8) -> usize
     requires { at + 1 ≤ length text.old }
     ensures { Wrote text.old at (byte ∷ []) text.new result 1 }
@@ -38,27 +36,16 @@ fn digit(d: usize) -> u8
     requires { d < 10 }
     ensures { result ≡ 48 + d }
 {
-    48 + d as u8
+    b'0' + d as u8
 }
 
 // How many digits a number has.
+#[tactic(auto, using(crate::proofs::Digits::digits_counted))]
 pub fn digit_count(n: usize) -> usize
     ensures value { result ≡ length (digits 20 n) }
     ensures upper_bound { result ≤ 20 }
 {
-    let mut count = 1;
-    let mut bound = 10;
-    while count < MOST_DIGITS - 1 {
-        if n < bound {
-            return count;
-        }
-        bound = bound * 10;
-        count += 1;
-    }
-    if n < bound {
-        return count;
-    }
-    count + 1
+    n.max(1).ilog10() as usize + 1
 }
 
 // The digits of n, of which there are so many, from the last to the first.
@@ -68,11 +55,9 @@ fn put_digits(text: &mut [u8], at: usize, n: usize, count: usize)
     ensures { Put text.old at (digits 20 n) text.new }
 {
     let mut rest = n;
-    let mut k = count;
-    while 0 < k {
-        k -= 1;
+    for k in (0..count).rev() {
         text[at + k] = digit(rest % 10);
-        rest = rest / 10;
+        rest /= 10;
     }
 }
 
@@ -93,10 +78,11 @@ fn put_signed(text: &mut [u8], at: usize, bits: usize, last: u8) -> usize
     ensures { Wrote text.old at (signed (coordinate_of bits) last) text.new result 22 }
 {
     if bits < LEAST_NEGATIVE {
-        return put_number(text, at, bits, last);
+        put_number(text, at, bits, last)
+    } else {
+        let end = put_byte(text, at, MINUS);
+        put_number(text, end, WHOLE - bits, last)
     }
-    let end = put_byte(text, at, MINUS);
-    put_number(text, end, WHOLE - bits, last)
 }
 
 // How many bytes a coordinate by its 32 bits takes, with the byte behind it.
@@ -106,9 +92,10 @@ fn signed_length(bits: usize) -> usize
     ensures upper_bound { result ≤ 22 }
 {
     if bits < LEAST_NEGATIVE {
-        return digit_count(bits) + 1;
+        digit_count(bits) + 1
+    } else {
+        digit_count(WHOLE - bits) + 2
     }
-    digit_count(WHOLE - bits) + 2
 }
 
 // How many bytes the coordinate at a place of the positions takes, with the byte behind it.

@@ -17,11 +17,7 @@ pub fn rows_of(width: usize, left: usize) -> usize
     requires { Width width }
     ensures { Block width left result }
 {
-    let rows = PLACES / width;
-    if left < rows {
-        return left;
-    }
-    rows
+    left.min(PLACES / width)
 }
 
 // The width behind a block that was wide enough for all its vertices.
@@ -30,9 +26,10 @@ pub fn narrower(width: usize) -> usize
     ensures { Width result }
 {
     if width < 2 * LEAST_WIDTH {
-        return width;
+        width
+    } else {
+        width / 2
     }
-    width / 2
 }
 
 // The width behind a block that was too narrow.
@@ -42,8 +39,5 @@ pub fn wider(width: usize) -> usize
     ensures width_2 { Width result }
     ensures lower_bound { width < result }
 {
-    if PLACES / 2 < width {
-        return PLACES;
-    }
-    width * 2
+    PLACES.min(width * 2)
 }

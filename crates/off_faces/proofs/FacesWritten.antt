@@ -3,7 +3,6 @@ use Prim.Native.Nat.{ℕ, suc, ◌+◌, ◌≤◌, ◌<◌}
 use mathlib.Core.Path.{◌≡◌, sym, ap, ◌∙◌, subst}
 use mathlib.Core.Bool.{cond}
 use mathlib.Core.List.{List, [], ◌∷◌, ◌++◌, append-nil}
-use native.Mathlib.Nat.{le_antisymm}
 use native.Mathlib.Numerals.{add-one}
 use native.Mathlib.Omega.{arith}
 use lib.Dec.{ltb}
@@ -46,16 +45,12 @@ faced_none ring a h = record {
   lines = written_is (sym (ap face_lines (faces_none ring a))) (written_none h);
 }
 
-pub faced_same : {old : List ℕ} {at : ℕ} {ring : List ℕ} {a b k : ℕ} {new new' : List ℕ} {end end' : ℕ}
-    → new' ≡ new → end' ≡ end → Faced old at ring a b k new end → Faced old at ring a b k new' end'
-faced_same p q w = rw (p, q) w
-
 module _ {old : List ℕ} {at : ℕ} {ring : List ℕ} {a b k : ℕ} {new : List ℕ} {end : ℕ} (w : Faced old at ring a b k new end) where
-  pub faced_left : (many : ℕ) → many ≡ length (over a ring) → k < many → 0 < length (over b ring)
-  faced_left many e h = over_left a b ring w.low (omega (arith, w.passed))
+  pub faced_left : k < length (over a ring) → 0 < length (over b ring)
+  faced_left h = over_left a b ring w.low (omega (arith, w.passed))
 
-  pub faced_end : (many : ℕ) → many ≡ length (over a ring) → many ≤ k → {n : ℕ} → Ascending ring n → Written old at (face_lines (faces_of ring a n)) new end
-  faced_end many e h {n} s =
+  pub faced_end : length (over a ring) ≤ k → {n : ℕ} → Ascending ring n → Written old at (face_lines (faces_of ring a n)) new end
+  faced_end h {n} s =
       written_is (ap face_lines (sym (faces_behind ring a n b s.known (omega (arith, w.passed, over_rest a b ring w.low))))) w.lines
 
   -- the least entry over b stands at place i, and c before it
@@ -123,50 +118,44 @@ module _ {old : List ℕ} {at : ℕ} {ring : List ℕ} {a b k : ℕ} {new : List
           written_is (ap face_lines (sym (faces_now ∙ y ∙ append-nil (faces_of ring a (suc b))))) w.lines;
     }
 
--- ---- all vertices
+-- ---- all vertices, the faces of those below a being written
 
--- the faces of the vertices below a are written
-pub record Reached (n : ℕ) (t : Lent) (old : List ℕ) (at a : ℕ) (new : List ℕ) (end : ℕ) : Type 0 where
-  pub most : a ≤ n
-  pub lines : Written old at (face_lines (faces_below (rows n t) a)) new end
-
-pub reached_none : (n : ℕ) (t : Lent) {old : List ℕ} {at : ℕ} → at ≤ length old → Reached n t old at 0 old at
+pub reached_none : (n : ℕ) (t : Lent) {old : List ℕ} {at : ℕ} → at ≤ length old → Written old at (face_lines (faces_below (rows n t) 0)) old at
 unfolding faces_below face_lines
-reached_none n t h = record { most = omega arith; lines = written_none h }
+reached_none n t h = written_none h
 
 pub row_ascending : (n : ℕ) (t : Lent) → Sound (rows n t) → {a : ℕ} → a < n → (ring : List ℕ) → ring ≡ ring_of t a → Ascending ring n
 unfolding rows
 row_ascending n t s {a} h ring e =
     subst (λ l. Ascending l n) (rows_ring n t a h ∙ sym e) (record { known = (s.proper a h).known; distinct = (s.proper a h).distinct })
 
-module _ {n : ℕ} {t : Lent} {old : List ℕ} {at a : ℕ} {new : List ℕ} {end : ℕ} (w : Reached n t old at a new end) where
-  module _ (h : a < n) (ring : List ℕ) (e : ring ≡ ring_of t a) where
-    lines_here : face_lines (faces_below (rows n t) a) ++ face_lines (faces_of ring a n) ≡ face_lines (faces_below (rows n t) (suc a))
-    unfolding faces_below rows
-    lines_here =
-        ap (λ l. face_lines (faces_below (rows n t) a) ++ face_lines l)
-        (ap (λ l. faces_of l a n) (e ∙ sym (rows_ring n t a h)) ∙ sym (faces_by_ring (rows n t) a n))
-        ∙ sym (lines_append (faces_below (rows n t) a) (faces_from (rows n t) a n))
+module _ (n : ℕ) (t : Lent) {old : List ℕ} {at a : ℕ} {new : List ℕ} {end : ℕ} (w : Written old at (face_lines (faces_below (rows n t) a)) new end)
+    (h : a < n) (ring : List ℕ) (e : ring ≡ ring_of t a) where
+  lines_here : face_lines (faces_below (rows n t) a) ++ face_lines (faces_of ring a n) ≡ face_lines (faces_below (rows n t) (suc a))
+  unfolding faces_below rows
+  lines_here =
+      ap (λ l. face_lines (faces_below (rows n t) a) ++ face_lines l)
+      (ap (λ l. faces_of l a n) (e ∙ sym (rows_ring n t a h)) ∙ sym (faces_by_ring (rows n t) a n))
+      ∙ sym (lines_append (faces_below (rows n t) a) (faces_from (rows n t) a n))
 
-    pub reached_fits : at + length (face_lines (listed (rows n t))) ≤ length old → end + length (face_lines (faces_of ring a n)) ≤ length new
-    unfolding listed rows
-    reached_fits room =
-        omega (
-          arith,
-          room,
-          w.lines.ends,
-          written_length w.lines,
-          ap length lines_here,
-          length-append (face_lines (faces_below (rows n t) a)) (face_lines (faces_of ring a n)),
-          vertices_longer (rows n t) (suc a) n h,
-        )
-
-    pub reached_more : {new' : List ℕ} {end' : ℕ} → Written new end (face_lines (faces_of ring a n)) new' end' → Reached n t old at (a + 1) new' end'
-    reached_more v = record {
-      most = omega arith;
-      lines = rw (add-one a) (written_is lines_here (written_then w.lines v));
-    }
-
-  pub reached_end : n ≤ a → Written old at (face_lines (listed (rows n t))) new end
+  pub reached_fits : at + length (face_lines (listed (rows n t))) ≤ length old → end + length (face_lines (faces_of ring a n)) ≤ length new
   unfolding listed rows
-  reached_end h = subst (λ k. Written old at (face_lines (faces_below (rows n t) k)) new end) (le_antisymm w.most h) w.lines
+  reached_fits room =
+      omega (
+        arith,
+        room,
+        w.ends,
+        written_length w,
+        ap length lines_here,
+        length-append (face_lines (faces_below (rows n t) a)) (face_lines (faces_of ring a n)),
+        vertices_longer (rows n t) (suc a) n h,
+      )
+
+  pub reached_more : {new' : List ℕ} {end' : ℕ} → Written new end (face_lines (faces_of ring a n)) new' end'
+      → Written old at (face_lines (faces_below (rows n t) (a + 1))) new' end'
+  reached_more v = rw (add-one a) (written_is lines_here (written_then w v))
+
+pub reached_end : (n : ℕ) (t : Lent) {old : List ℕ} {at a : ℕ} {new : List ℕ} {end : ℕ} → Written old at (face_lines (faces_below (rows n t) a)) new end
+    → a ≡ n → Written old at (face_lines (listed (rows n t))) new end
+unfolding listed rows
+reached_end n t {old} {at} {a} {new} {end} w e = subst (λ k. Written old at (face_lines (faces_below (rows n t) k)) new end) e w

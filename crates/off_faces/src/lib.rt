@@ -22,19 +22,15 @@ fn put_faces_of(text: &mut [u8], at: usize, ring: &[Vertex], a: usize, count: us
     requires count_in_bounds { at + length (face_lines (faces_of ring.now a count)) ≤ length text.old }
     ensures { Written text.old at (face_lines (faces_of ring.now a count)) text.new result }
 {
-    let n = ring.len();
-    let many = count_over(ring, a);
     let mut end = at;
     let mut b = a;
-    let mut k = 0;
-    while k < many {
+    for _k in 0..count_over(ring, a) {
         let i = place_over(ring, b);
         b = ring[i] as usize;
-        let c = ring[place_before(n, i)] as usize;
+        let c = ring[place_before(ring.len(), i)] as usize;
         if a < c {
             end = put_face(text, end, a, b, c);
         }
-        k += 1;
     }
     end
 }
@@ -53,10 +49,8 @@ pub fn put_faces(
     ensures { Written text.old at (face_lines (listed (rows count (lent valences.now rings.now)))) text.new result }
 {
     let mut end = at;
-    let mut a = 0;
-    while a < count {
+    for a in 0..count {
         end = put_faces_of(text, end, ring_of(valences, rings, a), a, count);
-        a += 1;
     }
     end
 }

@@ -1,15 +1,15 @@
--- One entry more in a row: what the tables then keep; rows without entries; a part of a row. Assumes nothing.
-use mathlib.Core.Path.{◌≡◌, refl, sym, ap, ◌∙◌, subst}
+-- One entry more in a row: what the tables then keep. Assumes nothing.
+use mathlib.Core.Path.{◌≡◌, sym, ap, ◌∙◌, subst}
 use mathlib.Core.List.{List, [], ◌∷◌, ◌++◌}
 use mathlib.Core.Logic.{⊎_elim, ◌≢◌}
-use Prim.Native.Nat.{ℕ, suc, ◌+◌, ◌-◌, ◌*◌, ◌≤◌, ◌<◌}
-use native.Mathlib.Nat.{suc-mul, mul-le-mul_right, eq-or-lt_of_le}
+use Prim.Native.Nat.{ℕ, suc, ◌+◌, ◌*◌, ◌≤◌, ◌<◌}
+use native.Mathlib.Nat.{suc-mul, mul-le-mul_right}
 use native.Mathlib.Omega.{arith}
-use lib.ListN.{length, get_or, set, take, drop, length-set, length-append, length-take, length-drop, get_or-append}
+use lib.ListN.{length, get_or, set, length-set, length-append, get_or-append}
 use lib.Seq.{get_or-set_same, get_or-set_other, get_or-append_seam}
 use borrow.Author.Tests.{eq-eqb, ne_eqb}
 use Rattle.mesh.proofs.Lists.{eq_split, lt_split}
-use Rattle.off_fans.specs.Rows.{Kept, Fans, added, Noted, added_at, NotedIn, Cleared}
+use Rattle.off_fans.specs.Rows.{Kept, Fans, added, Noted}
 
 -- places of different rows differ
 rows_apart : (width i j a b : ℕ) → a < width → b < width → i ≢ j → i * width + a ≢ j * width + b
@@ -33,13 +33,6 @@ entered width j x counts table = set table (j * width + get_or counts j 0) x
 module _ (width j x : ℕ) (counts table l : List ℕ) (h : j < length counts) (k : Kept width j counts table l) where
   count_more : get_or (grown j counts) j 0 ≡ length (l ++ (x ∷ []))
   count_more = get_or-set_same counts j _ 0 h ∙ omega (arith, k.count, length-append l (x ∷ []))
-
-  -- the row is full: its front stays
-  kept_full : width ≤ get_or counts j 0 → Kept width j (grown j counts) table (l ++ (x ∷ []))
-  kept_full f = record {
-    count = count_more;
-    entry = λ i a b. k.entry i (omega (arith, k.count)) b ∙ sym (get_or-append l (x ∷ []) 0 i (omega (arith, k.count)));
-  }
 
   kept_more : get_or counts j 0 < width → j * width + width ≤ length table
       → Kept width j (grown j counts) (entered width j x counts table) (l ++ (x ∷ []))
@@ -67,9 +60,6 @@ module _ (width j x : ℕ) (counts table l : List ℕ) (h : j < length counts) (
 -- ---- another row
 
 module _ (width i j : ℕ) (counts table l : List ℕ) (c : ℕ) (d : i ≢ j) (k : Kept width i counts table l) where
-  other_full : Kept width i (set counts j c) table l
-  other_full = record { count = get_or-set_other counts j i c 0 d ∙ k.count; entry = k.entry }
-
   other_more : (b x : ℕ) → b < width → Kept width i (set counts j c) (set table (j * width + b) x) l
   other_more b x h = record {
     count = get_or-set_other counts j i c 0 d ∙ k.count;
@@ -85,30 +75,6 @@ added_other : (A : ℕ → List ℕ) (j x i : ℕ) → i ≢ j → A i ≡ added
 added_other A j x i d = rw (ne_eqb i j d)
 
 module _ (width j x w : ℕ) (counts froms tos : List ℕ) (h : j < length counts) where
-  pub note_full : width ≤ get_or counts j 0 → Noted width j x w counts froms tos (grown j counts) froms tos
-  note_full f = record {
-    counts_same = simp length-set;
-    froms_same = refl;
-    tos_same = refl;
-    more = λ rows A B r l k. record {
-      from = λ i g. row froms A x i (k.from i g);
-      to = λ i g. row tos B w i (k.to i g);
-    };
-  }
-    where
-      row : (table : List ℕ) (A : ℕ → List ℕ) (y i : ℕ) → Kept width i counts table (A i) → Kept width i (grown j counts) table (added A j y i)
-      row table A y i k =
-          ⊎_elim
-          (λ e.
-          subst (Kept width i (grown j counts) table) (added_same A j y i e.1)
-          (subst (λ p. Kept width p counts table (A i) → Kept width p (grown j counts) table (A i ++ (y ∷ []))) (sym e.1)
-          (λ q. kept_full width j y counts table (A i) h q f)
-          k))
-          (λ e.
-          subst (Kept width i (grown j counts) table) (added_other A j y i e.1)
-          (other_full width i j counts table (A i) (get_or counts j 0 + 1) e.1 k))
-          (eq_split i j)
-
   pub note_more : get_or counts j 0 < width → j * width + width ≤ length froms → j * width + width ≤ length tos
       → Noted width j x w counts froms tos (grown j counts) (entered width j x counts froms) (entered width j w counts tos)
   note_more f a b = record {
@@ -147,75 +113,6 @@ fans_same {rows} {width} {counts} {froms} {tos} A B A' B' a b k = record {
   to = λ j h. subst (Kept width j counts tos) (b j h) (k.to j h);
 }
 
-module _ (first rows width x v w : ℕ) (counts froms tos : List ℕ) where
-  skip : ((j : ℕ) → j < rows → first + j ≢ v) → NotedIn first rows width x v w counts froms tos counts froms tos
-  skip d = record {
-    counts_same = refl;
-    froms_same = refl;
-    tos_same = refl;
-    more = λ A B k.
-        fans_same A B (added_at first A v x) (added_at first B v w)
-        (λ j h. rw (ne_eqb (first + j) v (d j h)))
-        (λ j h. rw (ne_eqb (first + j) v (d j h)))
-        k;
-  }
-
-  pub note_before : v < first → NotedIn first rows width x v w counts froms tos counts froms tos
-  note_before h = skip (λ j g e. omega arith)
-
-  pub note_behind : first ≤ v → rows ≤ v - first → NotedIn first rows width x v w counts froms tos counts froms tos
-  note_behind h g = skip (λ j l e. omega arith)
-
-  pub note_row : first ≤ v → v - first < rows → rows ≤ length counts → {c f t : List ℕ} → Noted width (v - first) x w counts froms tos c f t
-      → NotedIn first rows width x v w counts froms tos c f t
-  note_row h g r {c} {f} {t} k = record {
-    counts_same = k.counts_same;
-    froms_same = k.froms_same;
-    tos_same = k.tos_same;
-    more = λ A B q.
-        fans_same (added A (v - first) x) (added B (v - first) w) (added_at first A v x) (added_at first B v w)
-        (λ j l. same A x j)
-        (λ j l. same B w j)
-        (k.more rows A B r g q);
-  }
-    where
-      far : (j : ℕ) → j ≢ v - first → first + j ≢ v
-      far j d e = d (omega arith)
-
-      same : (A : ℕ → List ℕ) (y j : ℕ) → added A (v - first) y j ≡ added_at first A v y j
-      same A y j =
-          ⊎_elim
-          (λ e. rw (e.0, eq-eqb (first + j) v (omega arith)))
-          (λ e. rw (e.0, ne_eqb (first + j) v (far j e.1)))
-          (eq_split j (v - first))
-
 -- a row's places are within the table
 pub row_room : (rows width j n : ℕ) → j < rows → rows * width ≤ n → j * width + width ≤ n
 row_room rows width j n h g = omega (arith, suc-mul j width, mul-le-mul_right {m = suc j} {n = rows} width h)
-
--- ---- rows without entries
-
-pub cleared_none : {counts : List ℕ} → Cleared 0 counts counts
-cleared_none = record { same = refl; none = λ j h. absurd (omega arith) }
-
-pub cleared_more : {counts counts' : List ℕ} {j : ℕ} → Cleared j counts counts' → j < length counts → Cleared (j + 1) counts (set counts' j 0)
-cleared_more {counts} {counts'} {j} k h = record {
-  same = simp length-set k.same;
-  none = λ i g. ⊎_elim
-      (λ e. subst (λ x. get_or (set counts' j 0) x 0 ≡ 0) (sym e) (get_or-set_same counts' j 0 0 (omega (arith, k.same))))
-      (λ l. get_or-set_other counts' j i 0 0 (omega arith) ∙ k.none i l)
-      (eq-or-lt_of_le (omega arith));
-}
-
-pub cleared_end : {counts counts' : List ℕ} {j rows : ℕ} → Cleared j counts counts' → rows ≤ j → Cleared rows counts counts'
-cleared_end k h = record { same = k.same; none = λ i g. k.none i (omega arith) }
-
--- ---- a part of a row
-
--- what lies from a to a + n, as a slice's part has it
-module _ (table : List ℕ) (a n : ℕ) where
-  pub part_is : take (a + n - a) (drop a table) ≡ take n (drop a table)
-  part_is = let e : a + n - a ≡ n = omega arith in rw e
-
-  pub part_length : a + n ≤ length table → length (take n (drop a table)) ≡ n
-  part_length h = simp (length-take, length-drop) (omega arith)

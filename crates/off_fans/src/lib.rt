@@ -12,11 +12,7 @@ pub fn clear(counts: &mut [usize], rows: usize)
     requires { rows ≤ length counts.old }
     ensures { Cleared rows counts.old counts.new }
 {
-    let mut j = 0;
-    while j < rows {
-        counts[j] = 0;
-        j += 1;
-    }
+    counts[..rows].fill(0);
 }
 
 // The first n entries of row j.
@@ -74,12 +70,15 @@ pub fn note_in(
     ensures { NotedIn first rows width x v w counts.old froms.old tos.old
         counts.new froms.new tos.new }
 {
-    if v < first {
-        return;
+    if first <= v && v - first < rows {
+        note(
+            counts,
+            froms,
+            tos,
+            width,
+            v - first,
+            x as Vertex,
+            w as Vertex,
+        );
     }
-    let j = v - first;
-    if rows <= j {
-        return;
-    }
-    note(counts, froms, tos, width, j, x as Vertex, w as Vertex);
 }

@@ -5,7 +5,6 @@ use Prim.Native.Nat.{ℕ, ◌-◌, ◌≤◌}
 use native.Mathlib.Nat.{zero-add}
 use native.Mathlib.Omega.{arith}
 use Rattle.rings.specs.Table.{Lent}
-use Rattle.file_format.proofs.Blocks.{put_length}
 use Rattle.off_gather.specs.Gathering.{SameRoom}
 use Rattle.off_gather.proofs.Gathering.{same_none, same_more}
 use Rattle.off_blocks.specs.Blocks.{least_width, Width}
@@ -28,17 +27,6 @@ passed_none {s} = record {
 }
 
 module _ {s : List ℕ} {count at width : ℕ} {c₀ f₀ z₀ : List ℕ} {t₀ : Lent} {c f z : List ℕ} {t : Lent} (p : Passed s count at width c₀ f₀ z₀ t₀ c f z t) where
-  pub passed_fillable : Fillable s count t₀ → Fillable s count t
-  passed_fillable k = record {
-    count_is = k.count_is;
-    few = k.few;
-    most = k.most;
-    room = record {
-      valences = omega (arith, k.room.valences, put_length p.filled.valences);
-      rings = omega (arith, k.room.rings, put_length p.filled.rings);
-    };
-  }
-
   pub passed_more : {at' width' : ℕ} {c' f' z' : List ℕ} {t' : Lent} → Fillable s count t₀ → Stepped s count at width at' width' t t'
       → SameRoom c f z c' f' z'
       → Passed s count at' width' c₀ f₀ z₀ t₀ c' f' z' t'
@@ -49,6 +37,3 @@ module _ {s : List ℕ} {count at width : ℕ} {c₀ f₀ z₀ : List ℕ} {t₀
     filled = filled_all s (omega (arith, q.further)) (omega (arith, q.further))
         (filled_then s k (omega (arith, p.within)) p.filled (subst (λ v. Filled s v (at' - at) t t') (sym (zero-add at)) q.filled));
   }
-
-  pub passed_all : count ≤ at → Filled s 0 count t₀ t
-  passed_all h = filled_all s p.within h p.filled

@@ -3,7 +3,6 @@ use mathlib.Core.Path.{◌≡◌, refl, sym, ap, subst, ◌∙◌}
 use mathlib.Core.Bool.{Bool, true, false, cond}
 use mathlib.Core.List.{List, [], ◌∷◌, ◌++◌}
 use Prim.Native.Nat.{ℕ, zero, suc, ◌+◌, ◌-◌, ◌≤◌, ◌<◌}
-use native.Mathlib.Nat.{le_antisymm}
 use native.Mathlib.Numerals.{add-one}
 use native.Mathlib.Omega.{arith}
 use lib.ListN.{length, get_or, set, replicate}
@@ -71,13 +70,13 @@ module _ (n : ℕ) (from to : List ℕ) where
         written = put_is (sym (trail_more f start k)) (then w.written (put_is (ap (λ z. z ∷ []) w.here) one) (omega (arith, trail_length f start k)));
       }
 
-  pub walked_all : {old new end : List ℕ} {at x k : ℕ} → length from ≤ 32 → at + 32 ≤ length old → k ≤ length from → length from ≤ k → Walked old at new x k
+  pub walked_all : {old new end : List ℕ} {at x k : ℕ} → length from ≤ 32 → at + 32 ≤ length old → k ≡ length from → Walked old at new x k
       → end ≡ put new (at + length from) (replicate (32 - length from) null_vertex) → Put old at (padded (fan_ring n from to)) end
   unfolding fan_ring
-  walked_all {old} {new} {end} {at} {x} {k} few room a b w e =
+  walked_all {old} {new} {end} {at} {x} {k} few room q w e =
       let ring : List ℕ = fan_ring n from to in
       let long : length ring ≡ length from = fan_length in
-      let all : Put old at ring new = subst (λ j. Put old at (trail (follower n from to) (smallest n from to) j) new) (le_antisymm a b) w.written in
+      let all : Put old at ring new = subst (λ j. Put old at (trail (follower n from to) (smallest n from to) j) new) q w.written in
       record {
         fits = omega (arith, length_padded ring (omega arith));
         is = e

@@ -72,9 +72,6 @@ module _ (s : List ℕ) where
     pub valence_there : first + j < length t.valences
     valence_there = omega (arith, put_length p.valences, f.room.valences)
 
-    pub row_there : (first + j) * 32 + 32 ≤ length t.rings
-    row_there = omega (arith, put_length p.rings, f.room.rings)
-
     pub filled_row : {from to rs' : List ℕ} → from ≡ take (get_or counts j 0) (drop (j * width) froms) → to ≡ take (get_or counts j 0) (drop (j * width) tos)
         → Put t.rings ((first + j) * 32) (padded (fan_ring count from to)) rs' → Filled s first (j + 1) t₀ (lent (set t.valences (first + j) (get_or counts j 0)) rs')
     filled_row {from} {to} {rs'} a b q =

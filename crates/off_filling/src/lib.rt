@@ -38,11 +38,9 @@ fn fill_row(from: &[Vertex], to: &[Vertex], count: usize, rings: &mut [Vertex], 
     let n = from.len();
     let a = v * MOST_VALENCE;
     let mut x = smallest_of(from, to, count);
-    let mut k = 0;
-    while k < n {
+    for k in 0..n {
         rings[a + k] = x as Vertex;
         x = follow(from, to, count, x);
-        k += 1;
     }
     write_unused(rings, v, n);
 }
@@ -67,8 +65,7 @@ fn fill_rows(
     requires narrow { Narrow width rows counts.now }
     ensures { Filled text.now first rows (lent valences.old rings.old) (lent valences.new rings.new) }
 {
-    let mut j = 0;
-    while j < rows {
+    for j in 0..rows {
         let n = counts[j];
         valences[first + j] = n as u16;
         fill_row(
@@ -78,7 +75,6 @@ fn fill_rows(
             rings,
             first + j,
         );
-        j += 1;
     }
 }
 
@@ -87,24 +83,16 @@ fn over_row(counts: &[usize], rows: usize, width: usize) -> usize
     requires { rows ≤ length counts.now }
     ensures { result ≡ least (over_at width counts.now) rows }
 {
-    let mut j = 0;
-    while j < rows {
-        if width < counts[j] {
-            return j;
-        }
-        j += 1;
-    }
-    j
+    (0..rows).find(|j| width < counts[*j]).unwrap_or(rows)
 }
 
-// One block, from vertex `at` on.
+// One block, from the vertex reached on.
 fn fill_block(
     text: &[u8],
     from: usize,
     faces: usize,
     count: usize,
-    at: usize,
-    width: usize,
+    step: Step,
     counts: &mut [usize],
     froms: &mut [Vertex],
     tos: &mut [Vertex],
@@ -114,28 +102,25 @@ fn fill_block(
     requires face_lines { FaceLines text.now faces from }
     requires tables { Tables counts.old froms.old tos.old }
     requires fillable { Fillable text.now count (lent valences.old rings.old) }
-    requires width { Width width }
-    requires at_lt_count { at < count }
-    ensures stepped { Stepped text.now count at width result.at result.width
+    requires width { Width step.width }
+    requires at_lt_count { step.at < count }
+    ensures stepped { Stepped text.now count step.at step.width result.at result.width
         (lent valences.old rings.old) (lent valences.new rings.new) }
     ensures same_room { SameRoom counts.old froms.old tos.old counts.new froms.new tos.new }
 {
+    let Step { at, width } = step;
     let rows = rows_of(width, count - at);
     gather_faces(text, from, faces, at, rows, width, counts, froms, tos);
     let j = over_row(counts, rows, width);
     fill_rows(
         text, count, at, j, width, counts, froms, tos, valences, rings,
     );
-    if rows <= j {
-        return Step {
-            at: at + j,
-            width: narrower(width),
-        };
-    }
-    Step {
-        at: at + j,
-        width: wider(width),
-    }
+    let width = if rows <= j {
+        narrower(width)
+    } else {
+        wider(width)
+    };
+    Step { at: at + j, width }
 }
 
 // The valences and rings of all vertices.
@@ -155,13 +140,14 @@ pub fn fill_rings(
     requires fillable { Fillable text.now count (lent valences.old rings.old) }
     ensures { Filled text.now 0 count (lent valences.old rings.old) (lent valences.new rings.new) }
 {
-    let mut at = 0;
-    let mut width = LEAST_WIDTH;
-    while at < count {
-        let step = fill_block(
-            text, from, faces, count, at, width, counts, froms, tos, valences, rings,
+    let mut step = Step {
+        at: 0,
+        width: LEAST_WIDTH,
+    };
+    // A `while`, as the text says how many vertices a block passes: none where its first row is too narrow.
+    while step.at < count {
+        step = fill_block(
+            text, from, faces, count, step, counts, froms, tos, valences, rings,
         );
-        at = step.at;
-        width = step.width;
     }
 }

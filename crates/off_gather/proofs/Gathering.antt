@@ -4,13 +4,11 @@ use mathlib.Core.Bool.{Bool, true, false, cond, ◌&&◌}
 use mathlib.Core.List.{List, [], ◌∷◌, ◌++◌, append-nil}
 use mathlib.Core.Logic.{◌⊎◌, inl, inr, ⊎_elim, ◌≢◌}
 use Prim.Native.Nat.{ℕ, zero, suc, ◌+◌, ◌≤◌, ◌<◌}
-use native.Mathlib.Nat.{le_antisymm}
 use native.Mathlib.Numerals.{add-one}
 use native.Mathlib.Omega.{arith}
 use lib.Dec.{eqb}
 use lib.ListN.{length, length-append}
 use borrow.Author.Tests.{eqb-true, not-true, eq-eqb, ne_eqb}
-use Rattle.mesh.specs.Limits.{place_bound}
 use Rattle.mesh.proofs.Lists.{eq_split}
 use Rattle.off_numbers.specs.Text.{byte_at, value_at, after_at, is_number}
 use Rattle.off_numbers.specs.Scanned.{NumberThere}
@@ -21,7 +19,7 @@ use Rattle.off_rings.proofs.Pairs.{Fine, fine_of, at_a, at_b, at_c}
 use Rattle.off_text.specs.Layout.{text_count, is_corners, is_face, corners_at, after_face, face_line_at, text_face}
 use Rattle.off_fans.specs.Rows.{Fans, Room, Low, added_at, NotedIn}
 use Rattle.off_fans.proofs.Noting.{fans_same}
-use Rattle.off_gather.specs.Gathering.{FaceLines, FaceLine, SameRoom, Cornered, Gathered}
+use Rattle.off_gather.specs.Gathering.{SameRoom, Cornered, Gathered}
 
 -- where the three numbers of a face stand
 pub record Standing (s : List ℕ) (at : ℕ) : Type 0 where
@@ -121,13 +119,6 @@ module _ (first : ℕ) (f : Face) (ab : f.a ≢ f.b) (bc : f.b ≢ f.c) (ca : f.
 -- ---- the tables
 
 module _ {first rows width x v w : ℕ} {c f t c' f' t' : List ℕ} (k : NotedIn first rows width x v w c f t c' f' t') where
-  pub room_noted : Room rows width c f t → Room rows width c' f' t'
-  room_noted r = record {
-    counts_long = omega (arith, k.counts_same, r.counts_long);
-    froms_long = omega (arith, k.froms_same, r.froms_long);
-    tos_long = omega (arith, k.tos_same, r.tos_long);
-  }
-
   noted_is : (x' v' w' : ℕ) → x ≡ x' → v ≡ v' → w ≡ w' → NotedIn first rows width x' v' w' c f t c' f' t'
   noted_is x' v' w' p q r =
       subst (λ y. NotedIn first rows width y v' w' c f t c' f' t') p
@@ -223,26 +214,6 @@ gathered_more s first rows width i at a b c next e good k g n₁ n₂ n₃ =
 
 -- ---- what the functions know
 
-pub small_enough : {s : List ℕ} {i at a b c next : ℕ} → FaceLine s i at → Cornered s at a b c next → (a < place_bound) × ((b < place_bound) × (c < place_bound))
-small_enough l k = (omega (arith, l.few, k.a_small), (omega (arith, l.few, k.b_small), omega (arith, l.few, k.c_small)))
-
-pub face_line_lem : {s : List ℕ} {m from i at : ℕ} → FaceLines s m from → i < m → at ≡ face_line_at s i → FaceLine s i at
-face_line_lem {s} {m} {from} {i} {at} k h e = record {
-  few = k.few;
-  number = omega (arith, k.number);
-  begins = e;
-  good = subst (λ p. is_face s p ≡ true) (sym e) (k.good i h);
-}
-
-pub same_three : {first rows width a b c a₁ b₁ c₁ a₂ b₂ c₂ : ℕ} {c₀ f₀ t₀ d₁ f₁ t₁ d₂ f₂ t₂ d₃ f₃ t₃ : List ℕ}
-    → NotedIn first rows width a b c c₀ f₀ t₀ d₁ f₁ t₁ → NotedIn first rows width a₁ b₁ c₁ d₁ f₁ t₁ d₂ f₂ t₂
-    → NotedIn first rows width a₂ b₂ c₂ d₂ f₂ t₂ d₃ f₃ t₃ → SameRoom c₀ f₀ t₀ d₃ f₃ t₃
-same_three n₁ n₂ n₃ = record {
-  counts_same = n₃.counts_same ∙ n₂.counts_same ∙ n₁.counts_same;
-  froms_same = n₃.froms_same ∙ n₂.froms_same ∙ n₁.froms_same;
-  tos_same = n₃.tos_same ∙ n₂.tos_same ∙ n₁.tos_same;
-}
-
 pub room_same : {rows width : ℕ} {c f t c' f' t' : List ℕ} → SameRoom c f t c' f' t' → Room rows width c f t → Room rows width c' f' t'
 room_same k r = record {
   counts_long = omega (arith, k.counts_same, r.counts_long);
@@ -255,7 +226,3 @@ same_none = record { counts_same = refl; froms_same = refl; tos_same = refl }
 
 pub same_more : {c f t c' f' t' c'' f'' t'' : List ℕ} → SameRoom c f t c' f' t' → SameRoom c' f' t' c'' f'' t'' → SameRoom c f t c'' f'' t''
 same_more a b = record { counts_same = b.counts_same ∙ a.counts_same; froms_same = b.froms_same ∙ a.froms_same; tos_same = b.tos_same ∙ a.tos_same }
-
-pub gathered_end : {s : List ℕ} {first rows width i m : ℕ} {c f t : List ℕ} → i ≤ m → m ≤ i → Gathered s first rows width i c f t
-    → Gathered s first rows width m c f t
-gathered_end {s} {first} {rows} {width} {i} {m} {c} {f} {t} a b g = subst (λ k. Gathered s first rows width k c f t) (le_antisymm a b) g

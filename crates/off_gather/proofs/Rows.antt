@@ -1,5 +1,5 @@
 -- From the rows that were gathered to the faces of a vertex, whatever the rows' width. Assumes nothing.
-use mathlib.Core.Path.{◌≡◌, refl, ◌∙◌, subst}
+use mathlib.Core.Path.{◌≡◌, ◌∙◌, subst}
 use mathlib.Core.List.{List}
 use Prim.Native.Nat.{ℕ, ◌+◌, ◌*◌, ◌≤◌, ◌<◌}
 use native.Mathlib.Omega.{arith}
@@ -27,14 +27,8 @@ gathered_none k = record {
   };
 }
 
-pub same_cleared : {rows : ℕ} {counts counts' froms tos : List ℕ} → Cleared rows counts counts' → SameRoom counts froms tos counts' froms tos
-same_cleared k = record { counts_same = k.same; froms_same = refl; tos_same = refl }
-
 -- a row's places are within the tables
 module _ {rows width j : ℕ} {counts froms tos : List ℕ} (r : Room rows width counts froms tos) (l : j < rows) where
-  pub row_counts : j < length counts
-  row_counts = omega (arith, r.counts_long)
-
   pub row_froms : j * width + width ≤ length froms
   row_froms = row_room rows width j (length froms) l r.froms_long
 

@@ -80,9 +80,7 @@ pub fn gather_faces(
 {
     clear(counts, rows);
     let mut at = from;
-    let mut i = 0;
-    while i < faces {
+    for i in 0..faces {
         at = gather_face(text, at, i, first, rows, width, counts, froms, tos);
-        i += 1;
     }
 }

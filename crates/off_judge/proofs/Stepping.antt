@@ -11,12 +11,12 @@ use lib.ListN.{length, get_or}
 use Rattle.mesh.specs.Limits.{least_valence, most_valence}
 use Rattle.mesh.specs.Search.{first as least}
 use Rattle.mesh.proofs.Lists.{lt_split}
-use Rattle.mesh.proofs.First.{Clear, first_le, first_clear, first_at, first_is, first_end, or_false, true_not_false}
+use Rattle.mesh.proofs.First.{Clear, first_le, first_clear, first_at, first_is, first_end, or_false}
 use Rattle.off_rings.specs.Faces.{faces_at, unfit_faces}
 use Rattle.off_text.specs.Layout.{text_count, text_faces, text_face}
 use Rattle.off_gather.specs.Gathering.{FaceLines, Gathered, SameRoom}
 use Rattle.off_gather.proofs.Rows.{row_count, gathered_all}
-use Rattle.off_blocks.specs.Blocks.{places, least_width, Width, Block, Tables, ahead}
+use Rattle.off_blocks.specs.Blocks.{places, Width, Block, Tables, ahead}
 use Rattle.off_judge.specs.Judging.{unfit_at, unfit_from, open_at, unfit, stops, Sofar, Stepped, Judged}
 use Rattle.off_judge.proofs.Stops.{open_narrow, open_wide}
 use Rattle.off_judge.proofs.Faulty.{unfit_known, unfit_found, unfit_none}
@@ -108,6 +108,13 @@ module _ {s : List ℕ} {at width known rows j : ℕ} {counts froms tos : List �
         (eq-or-lt_of_le (first_le (unfit_at counts) j)))
         (lt_split known (text_count s)))
 
+-- the vertex reached does not close
+judged_open : {s : List ℕ} {at width fault : ℕ} → Sofar s at width fault → at < text_count s → open_at s at ≡ true → Judged s at fault
+judged_open k h o = record {
+  open_is = first_is (record { below = k.closed_below }) h o;
+  fault_is = λ e. absurd (omega arith);
+}
+
 -- what is known behind a block that was gathered and judged up to row j
 module _ {s : List ℕ} {faces from at width known rows j count fault : ℕ} {counts froms tos : List ℕ} (lines : FaceLines s faces from)
     (all : Gathered s at rows width faces counts froms tos) (k : Sofar s at width known) (b : Block width (count - at) rows) (q : count ≡ text_count s)
@@ -115,67 +122,38 @@ module _ {s : List ℕ} {faces from at width known rows j count fault : ℕ} {co
   now_known : {width' : ℕ} → Width width' → Sofar s (at + j) width' fault
   now_known wide = sofar_more (gathered_all lines all) k e (omega (arith, b.within)) wide fault count q f
 
-  stepped_open : j < rows → open_at s (at + j) ≡ true → Stepped s at width (at + j) width fault true
-  stepped_open l o = record {
-    sofar = now_known k.wide;
-    opens_at = λ t. (omega (arith, b.within), o);
-    nearer = λ t. absurd (true_not_false refl t);
-  }
-
   -- every row was passed
-  pub stepped_past : {width' : ℕ} → rows ≤ j → Width width' → Stepped s at width (at + j) width' fault false
+  pub stepped_past : {width' : ℕ} → rows ≤ j → Width width' → Stepped s at width (at + j) width' fault
   unfolding ahead
-  stepped_past l wide = record {
-    sofar = now_known wide;
-    opens_at = λ t. absurd (true_not_false t refl);
-    nearer = λ t. omega (arith, b.some (omega arith), b.within, wide.low);
-  }
+  stepped_past l wide = record { sofar = now_known wide; nearer = omega (arith, b.some (omega arith), b.within, wide.low) }
 
   -- the next vertex has more faces than the rows were wide
-  pub stepped_wider : {width' : ℕ} → j < rows → Width width' → width < width' → Stepped s at width (at + j) width' fault false
+  pub stepped_wider : {width' : ℕ} → j < rows → Width width' → width < width' → Stepped s at width (at + j) width' fault
   unfolding ahead
-  stepped_wider l wide more = record {
-    sofar = now_known wide;
-    opens_at = λ t. absurd (true_not_false t refl);
-    nearer = λ t. omega (arith, b.within, wide.high);
-  }
+  stepped_wider l wide more = record { sofar = now_known wide; nearer = omega (arith, b.within, wide.high) }
+
+  judged_at : j < rows → open_at s (at + j) ≡ true → Judged s (at + j) fault
+  judged_at l o = judged_open (now_known k.wide) (omega (arith, b.within)) o
 
   -- the next vertex does not close, in a row that is wide enough
-  pub stepped_narrow : j < rows → get_or counts j 0 ≤ width → Stepped s at width (at + j) width fault true
-  stepped_narrow l n = stepped_open l (open_narrow (gathered_all lines all) l e n)
+  pub judged_narrow : j < rows → get_or counts j 0 ≤ width → Judged s (at + j) fault
+  judged_narrow l n = judged_at l (open_narrow (gathered_all lines all) l e n)
 
   -- or where rows cannot be wider
-  pub stepped_wide : j < rows → places ≤ width → width < get_or counts j 0 → Stepped s at width (at + j) width fault true
-  stepped_wide l w n = stepped_open l (open_wide (gathered_all lines all) l lines w n)
+  pub judged_wide : j < rows → places ≤ width → width < get_or counts j 0 → Judged s (at + j) fault
+  judged_wide l w n = judged_at l (open_wide (gathered_all lines all) l lines w n)
 
 -- ---- all blocks
 
-pub sofar_none_yet : {s : List ℕ} {count : ℕ} → count ≡ text_count s → Sofar s 0 least_width count
-sofar_none_yet {s} {count} e = record {
-  wide = record { low = omega arith; high = omega arith };
-  within = omega arith;
-  closed_below = λ v h. absurd (omega arith);
-  fit_below = λ v h. absurd (omega arith);
-  fault_below = λ h. absurd (omega arith);
-  fault_is = λ h. absurd (omega arith);
-  fault_within = omega arith;
+-- every vertex closes
+pub judged_all : {s : List ℕ} {at width fault : ℕ} → Sofar s at width fault → {count : ℕ} → count ≡ text_count s → count ≤ at → Judged s count fault
+judged_all {s} {at} {width} {fault} k {count} e h = record {
+  open_is = first_end {i = count} (record { below = λ v a. k.closed_below v (omega arith) }) (omega arith) (omega arith);
+  fault_is = λ t. ⊎_elim
+      (λ q. first_end fit (omega arith) (omega arith))
+      (λ q. first_is fit q (k.fault_is q))
+      (eq-or-lt_of_le k.fault_within);
 }
-
-module _ {s : List ℕ} {at width fault : ℕ} (k : Sofar s at width fault) where
-  pub judged_open : at < text_count s → open_at s at ≡ true → Judged s at fault
-  judged_open h o = record {
-    open_is = first_is (record { below = k.closed_below }) h o;
-    fault_is = λ e. absurd (omega arith);
-  }
-
-  pub judged_all : {count : ℕ} → count ≡ text_count s → count ≤ at → Judged s count fault
-  judged_all {count} e h = record {
-    open_is = first_end {i = count} (record { below = λ v a. k.closed_below v (omega arith) }) (omega arith) (omega arith);
-    fault_is = λ t. ⊎_elim
-        (λ q. first_end fit (omega arith) (omega arith))
-        (λ q. first_is fit q (k.fault_is q))
-        (eq-or-lt_of_le k.fault_within);
-  }
-    where
-      fit : Clear (unfit s) fault
-      fit = record { below = λ v a. k.fit_below v (omega (arith, k.fault_within)) a }
+  where
+    fit : Clear (unfit s) fault
+    fit = record { below = λ v a. k.fit_below v (omega (arith, k.fault_within)) a }

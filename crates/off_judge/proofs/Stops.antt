@@ -1,12 +1,15 @@
 -- What a row that was gathered shows of its vertex: whether it stops a block, and whether the vertex closes. Assumes nothing.
-use mathlib.Core.Path.{◌≡◌, sym, ap, ap₂, ◌∙◌, subst}
-use mathlib.Core.Bool.{Bool, true, not}
+use mathlib.Core.Path.{◌≡◌, sym, ap, ◌∙◌, subst}
+use mathlib.Core.Bool.{Bool, true, not, ◌||◌}
+use mathlib.Core.Logic.{⊎_elim}
 use mathlib.Core.List.{List}
 use Prim.Native.Nat.{ℕ, ◌+◌, ◌*◌, ◌≤◌, ◌<◌}
 use native.Mathlib.Omega.{arith}
+use lib.Dec.{ltb}
 use lib.ListN.{get_or, take, drop}
 use borrow.Author.Tests.{lt-ltb, le-ltb}
 use Rattle.mesh.specs.Search.{first as least}
+use Rattle.mesh.proofs.Lists.{lt_split}
 use Rattle.mesh.proofs.First.{first_at, by_cases}
 use Rattle.off_rings.specs.Faces.{faces_at, closed}
 use Rattle.off_rings.specs.Fans.{fan_closes}
@@ -26,24 +29,25 @@ open_over {s} v k h =
     (by_cases (closed (text_count s) (text_faces s) (text_face s) v) (λ c.
     omega (arith, k.few, closed_few (text_count s) (text_faces s) (text_face s) (fine_faces k) v c)))
 
-module _ {s : List ℕ} {first rows width j : ℕ} {counts froms tos : List ℕ} (g : Gathered s first rows width (text_faces s) counts froms tos) (l : j < rows) where
-  -- a row that is too narrow stops a block
-  pub narrow_stops : width < get_or counts j 0 → stops s width first j ≡ true
-  narrow_stops h = rw (lt-ltb width (faces_at (text_count s) (text_faces s) (text_face s) (first + j)) (omega (arith, row_count g l)))
+-- whether row j stops a block, as its entries tell
+abbrev pub told : ℕ → ℕ → List ℕ → List ℕ → List ℕ → ℕ → Bool
+told count width counts froms tos j =
+    ltb width (get_or counts j 0)
+    || not (fan_closes count (take (get_or counts j 0) (drop (j * width) froms)) (take (get_or counts j 0) (drop (j * width) tos)))
 
-  -- another stops it where its vertex does not close
+module _ {s : List ℕ} {first rows width j : ℕ} {counts froms tos : List ℕ} (g : Gathered s first rows width (text_faces s) counts froms tos) (l : j < rows) where
+  -- a row that is wide enough stops a block where its vertex does not close
   stops_open : get_or counts j 0 ≤ width → stops s width first j ≡ open_at s (first + j)
   stops_open h = rw (le-ltb width (faces_at (text_count s) (text_faces s) (text_face s) (first + j)) (omega (arith, row_count g l)))
 
-  -- which its entries tell
-  pub row_judged : {count : ℕ} {from to : List ℕ} {b : Bool} → Room rows width counts froms tos → get_or counts j 0 ≤ width → count ≡ text_count s
-      → from ≡ take (get_or counts j 0) (drop (j * width) froms) → to ≡ take (get_or counts j 0) (drop (j * width) tos)
-      → b ≡ fan_closes count from to → stops s width first j ≡ not b
-  row_judged {count} {from} {to} r h e p q d =
-      stops_open h
-      ∙ ap not
-      (closed_fan (text_count s) (text_faces s) (text_face s) (first + j)
-      ∙ sym (d ∙ ap (λ k. fan_closes k from to) e ∙ ap₂ (λ x y. fan_closes (text_count s) x y) (p ∙ from_row g l r h) (q ∙ to_row g l r h)))
+  pub told_is : {count : ℕ} → Room rows width counts froms tos → count ≡ text_count s → told count width counts froms tos j ≡ stops s width first j
+  told_is r e =
+      ⊎_elim
+      (λ h. rw (h.0, lt-ltb width (faces_at (text_count s) (text_faces s) (text_face s) (first + j)) (omega (arith, row_count g l, h.1))))
+      (λ h.
+      rw (h.0, e, from_row g l r h.1, to_row g l r h.1)
+      (ap not (sym (closed_fan (text_count s) (text_faces s) (text_face s) (first + j))) ∙ sym (stops_open h.1)))
+      (lt_split width (get_or counts j 0))
 
   -- the row that stops a block and is wide enough: its vertex does not close
   pub open_narrow : j ≡ least (stops s width first) rows → get_or counts j 0 ≤ width → open_at s (first + j) ≡ true

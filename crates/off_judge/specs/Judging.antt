@@ -40,11 +40,10 @@ module _ (s : List ℕ) where
     pub fault_is : fault < text_count s → unfit fault ≡ true
     pub fault_within : fault ≤ text_count s
 
-  -- a block was judged: there is less ahead, or the vertex that comes next does not close
-  pub record Stepped (at width at' width' fault' : ℕ) (opens : Bool) : Type 0 where
+  -- a block was judged, and there is less ahead
+  pub record Stepped (at width at' width' fault' : ℕ) : Type 0 where
     pub sofar : Sofar at' width' fault'
-    pub opens_at : opens ≡ true → (at' < text_count s) × (open_at at' ≡ true)
-    pub nearer : opens ≡ false → ahead (text_count s) at' width' < ahead (text_count s) at width
+    pub nearer : ahead (text_count s) at' width' < ahead (text_count s) at width
 
   -- the first vertex that does not close, or V; and where all do, the first that is unfit, or V
   pub record Judged (opens fault : ℕ) : Type 0 where

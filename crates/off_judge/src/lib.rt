@@ -2,7 +2,7 @@
 // the next block begins with it, in wider rows.
 #![tactic(auto)]
 
-ghost use Rattle.std.specs.Prelude.{◌≡◌, ◌+◌, ◌≤◌, ◌<◌, length};
+ghost use Rattle.std.specs.Prelude.{◌≡◌, ◌+◌, ◌≤◌, ◌<◌, length, MatchResult};
 ghost use Rattle.mesh.specs.Search.{first as least};
 ghost use Rattle.off_text.specs.Layout.{text_count, text_faces};
 ghost use Rattle.off_fans.specs.Rows.{Room};
@@ -23,13 +23,12 @@ pub struct Faults {
     pub unfit: usize,
 }
 
-// What is known behind a block: the vertex reached, the width of the next rows, the first unfit vertex, and whether the vertex reached does not close.
+// What is known behind a block: the vertex reached, the width of the next rows, and the first unfit vertex.
 #[derive(Clone, Copy)]
 struct Step {
     at: usize,
     width: usize,
     unfit: usize,
-    opens: bool,
 }
 
 // The first row that stops a block, or their number.
@@ -48,18 +47,17 @@ fn stop_row(
     requires gathered { Gathered text.now first rows width (text_faces text.now) counts.now froms.now tos.now }
     ensures { result ≡ least (stops text.now width first) rows }
 {
-    let mut j = 0;
-    while j < rows {
-        let n = counts[j];
-        if width < n {
-            return j;
-        }
-        if !closes(row_of(froms, width, j, n), row_of(tos, width, j, n), count) {
-            return j;
-        }
-        j += 1;
-    }
-    j
+    (0..rows)
+        .find(|j| {
+            let n = counts[*j];
+            width < n
+                || !closes(
+                    row_of(froms, width, *j, n),
+                    row_of(tos, width, *j, n),
+                    count,
+                )
+        })
+        .unwrap_or(rows)
 }
 
 // The first of the rows with an unfit valence, or their number.
@@ -67,18 +65,9 @@ fn unfit_row(counts: &[usize], rows: usize) -> usize
     requires { rows ≤ length counts.now }
     ensures { result ≡ least (unfit_at counts.now) rows }
 {
-    let mut j = 0;
-    while j < rows {
-        let n = counts[j];
-        if n < LEAST_VALENCE {
-            return j;
-        }
-        if MOST_VALENCE < n {
-            return j;
-        }
-        j += 1;
-    }
-    j
+    (0..rows)
+        .find(|j| counts[*j] < LEAST_VALENCE || MOST_VALENCE < counts[*j])
+        .unwrap_or(rows)
 }
 
 // The first unfit vertex: the one known, or one of so many rows from vertex `first` on, or the number of vertices.
@@ -91,66 +80,50 @@ fn first_unfit(counts: &[usize], first: usize, rows: usize, known: usize, count:
         return known;
     }
     let j = unfit_row(counts, rows);
-    if j < rows {
-        return first + j;
-    }
-    count
+    if j < rows { first + j } else { count }
 }
 
-// One block, from vertex `at` on.
+// One block, from the vertex reached on: what is known behind it, or the faults where the vertex that comes next does not close.
 fn judge_block(
     text: &[u8],
     from: usize,
     faces: usize,
     count: usize,
-    at: usize,
-    width: usize,
-    known: usize,
+    step: Step,
     counts: &mut [usize],
     froms: &mut [Vertex],
     tos: &mut [Vertex],
-) -> Step
+) -> Result<Step, Faults>
     requires count_value { count ≡ text_count text.now }
     requires face_lines { FaceLines text.now faces from }
     requires tables { Tables counts.old froms.old tos.old }
-    requires sofar { Sofar text.now at width known }
-    requires at_lt_count { at < count }
-    ensures stepped { Stepped text.now at width result.at result.width result.unfit result.opens }
+    requires sofar { Sofar text.now step.at step.width step.unfit }
+    requires at_lt_count { step.at < count }
+    ensures stepped { MatchResult result
+        (λ next. Stepped text.now step.at step.width next.at next.width next.unfit)
+        (λ faults. Judged text.now faults.opens faults.unfit) }
     ensures same_room { SameRoom counts.old froms.old tos.old counts.new froms.new tos.new }
 {
+    let Step { at, width, unfit } = step;
     let rows = rows_of(width, count - at);
     gather_faces(text, from, faces, at, rows, width, counts, froms, tos);
     let j = stop_row(text, count, at, rows, width, counts, froms, tos);
-    let unfit = first_unfit(counts, at, j, known, count);
+    let unfit = first_unfit(counts, at, j, unfit, count);
+    let at = at + j;
     if rows <= j {
-        return Step {
-            at: at + j,
+        Ok(Step {
+            at,
             width: narrower(width),
-            unfit: unfit,
-            opens: false,
-        };
-    }
-    if counts[j] <= width {
-        return Step {
-            at: at + j,
-            width: width,
-            unfit: unfit,
-            opens: true,
-        };
-    }
-    if PLACES <= width {
-        return Step {
-            at: at + j,
-            width: width,
-            unfit: unfit,
-            opens: true,
-        };
-    }
-    Step {
-        at: at + j,
-        width: wider(width),
-        unfit: unfit,
-        opens: false,
+            unfit,
+        })
+    } else if width < counts[j] && width < PLACES {
+        Ok(Step {
+            at,
+            width: wider(width),
+            unfit,
+        })
+    } else {
+        Err(Faults { opens: at, unfit })
     }
 }
 
@@ -170,25 +143,20 @@ pub fn judge_vertices(
     ensures judged { Judged text.now result.opens result.unfit }
     ensures same_room { SameRoom counts.old froms.old tos.old counts.new froms.new tos.new }
 {
-    let mut at = 0;
-    let mut width = LEAST_WIDTH;
-    let mut unfit = count;
-    while at < count {
-        let step = judge_block(
-            text, from, faces, count, at, width, unfit, counts, froms, tos,
-        );
-        at = step.at;
-        width = step.width;
-        unfit = step.unfit;
-        if step.opens {
-            return Faults {
-                opens: at,
-                unfit: unfit,
-            };
+    let mut step = Step {
+        at: 0,
+        width: LEAST_WIDTH,
+        unfit: count,
+    };
+    // A `while`, as the text says how many vertices a block passes: none where its first row is too narrow.
+    while step.at < count {
+        match judge_block(text, from, faces, count, step, counts, froms, tos) {
+            Ok(next) => step = next,
+            Err(faults) => return faults,
         }
     }
     Faults {
         opens: count,
-        unfit: unfit,
+        unfit: step.unfit,
     }
 }

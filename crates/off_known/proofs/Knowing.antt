@@ -75,7 +75,7 @@ module _ {s : List ℕ} {at value next byte : ℕ} (k : Reading s at value next 
       count = k.count + 1;
       place = omega (arith, k.place);
       short = omega (arith, here h);
-      scan = scan_more s at k.count value byte test k.is refl k.scan (ap not (test_true (here h)));
+      scan = scan_more s at k.count value byte test k.is refl k.scan (test_true (here h));
       is = ap (λ i. get_or s i 0) (omega (arith, k.place));
     }
 

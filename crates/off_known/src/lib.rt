@@ -8,22 +8,15 @@ ghost use Rattle.off_numbers.specs.Scanned.{NumberThere, UnitThere};
 use file_format::bytes::coordinate_of;
 use off_numbers::{MINUS, WHOLE, ZERO};
 
-// A number and the place behind the byte that follows it.
+// What is read, and the place behind the byte that follows it.
 #[derive(Clone, Copy)]
-pub struct Read {
-    pub value: usize,
-    pub next: usize,
-}
-
-// Units and the place behind the byte that follows them.
-#[derive(Clone, Copy)]
-pub struct UnitRead {
-    pub value: i32,
+pub struct Read<T> {
+    pub value: T,
     pub next: usize,
 }
 
 // The number at a place, where one is known to stand.
-pub fn read_number(text: &[u8], at: usize) -> Read
+pub fn read_number(text: &[u8], at: usize) -> Read<usize>
     requires { NumberThere text.now at }
     ensures value_value { result.value ≡ value_at text.now at }
     ensures next_value { result.next ≡ after_at text.now at }
@@ -47,33 +40,35 @@ pub fn read_number(text: &[u8], at: usize) -> Read
     let mut value = two * 10 + (third - ZERO);
     let mut next = at + 3;
     let mut byte = text[next] as usize;
+    // A `while`, as the digits end at a byte that is known to come, and not at the text's end.
     while ZERO <= byte {
         value = value * 10 + (byte - ZERO);
         next += 1;
         byte = text[next] as usize;
     }
     Read {
-        value: value,
+        value,
         next: next + 1,
     }
 }
 
 // The units at a place, where some are known to stand.
-pub fn read_unit(text: &[u8], at: usize) -> UnitRead
+pub fn read_unit(text: &[u8], at: usize) -> Read<i32>
     requires { UnitThere text.now at }
     ensures value_value { result.value ≡ unit_at text.now at }
     ensures next_value { result.next ≡ after_unit text.now at }
 {
     if text[at] as usize == MINUS {
         let below = read_number(text, at + 1);
-        return UnitRead {
+        Read {
             value: coordinate_of(WHOLE - below.value),
             next: below.next,
-        };
-    }
-    let above = read_number(text, at);
-    UnitRead {
-        value: coordinate_of(above.value),
-        next: above.next,
+        }
+    } else {
+        let above = read_number(text, at);
+        Read {
+            value: coordinate_of(above.value),
+            next: above.next,
+        }
     }
 }

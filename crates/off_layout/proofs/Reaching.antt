@@ -1,62 +1,93 @@
 -- Lines passed one after the other, up to the first that is not as it should be. Assumes nothing.
-use mathlib.Core.Path.{◌≡◌, sym, ap, ◌∙◌}
-use mathlib.Core.Bool.{Bool, true, false, not}
+use mathlib.Core.Path.{◌≡◌, refl, sym, ap, ◌∙◌}
+use mathlib.Core.Bool.{Bool, true, false, cond, not}
 use mathlib.Core.List.{List}
-use Prim.Native.Nat.{ℕ, suc, ◌+◌, ◌≤◌, ◌<◌}
+use mathlib.Core.Logic.{⊎_elim}
+use Prim.Native.Nat.{ℕ, suc, ◌≤◌}
 use native.Mathlib.Numerals.{add-one}
 use lib.ListN.{length}
+use Rattle.std.specs.Prelude.{Option, Some, None}
+use Rattle.std.proofs.lemmas.Option.{cond_some}
+use Rattle.mesh.specs.Search.{first}
+use Rattle.mesh.proofs.Lists.{lt_split}
 use Rattle.mesh.proofs.First.{Clear, clear_none, clear_more, first_is, first_end}
-use Rattle.off_units.specs.declared.Past.TheVariants as past
 use Rattle.off_text.specs.Layout.{is_vertex, after_vertex, vertex_at, is_face, after_face, face_line_at}
-use Rattle.off_layout.specs.Judging.{past_vertex, past_face, bad_vertex, bad_line, PastLines}
-use Rattle.off_layout.proofs.Lines.{vertex_found, vertex_missing, face_found, face_missing}
+use Rattle.off_layout.specs.Judging.{past_vertex, past_face, Walked, Passed}
+use Rattle.off_layout.specs.Judging.Walked.{none, more}
+use Rattle.off_layout.proofs.Lines.{vertex_within, face_within}
+
+-- a choice that gave nothing was not made
+cond_none : {A : Type 0} (b : Bool) (x : A) → cond b (Some x) None ≡ None → b ≡ false
+cond_none true x e = cc
+cond_none false x e = refl
 
 -- so many lines are as they should be, and the next one begins at a place
-pub record Reaches (s : List ℕ) (line_at : ℕ → ℕ) (bad : ℕ → Bool) (line at : ℕ) : Type 0 where
-  pub clear : Clear bad line
+record Reaches (s : List ℕ) (line_at : ℕ → ℕ) (bad : ℕ → Bool) (line at : ℕ) : Type 0 where
+  clear : Clear bad line
+  begins : at ≡ line_at line
+  within : at ≤ length s
+
+-- the first of so many lines that is not as it should be, or their number, and where it begins
+pub record PastLines (s : List ℕ) (line_at : ℕ → ℕ) (bad : ℕ → Bool) (lines line at : ℕ) : Type 0 where
+  pub first_is : line ≡ first bad lines
   pub begins : at ≡ line_at line
   pub within : at ≤ length s
 
-module _ {s : List ℕ} {line_at : ℕ → ℕ} {bad : ℕ → Bool} where
-  pub reaches_none : {at : ℕ} → at ≡ line_at 0 → at ≤ length s → Reaches s line_at bad 0 at
-  reaches_none e h = record { clear = clear_none; begins = e; within = h }
+-- lines of one kind: which places a good one begins at, where it ends, and where the lines of a text begin; a step passes the good ones alone
+module _ (s : List ℕ) (good : ℕ → Bool) (after line_at : ℕ → ℕ) (next_line : (i : ℕ) → line_at (suc i) ≡ after (line_at i))
+    (within : (at : ℕ) → good at ≡ true → after at ≤ length s) {past : ℕ → Option ℕ → Type 0}
+    (is : (at : ℕ) (r : Option ℕ) → past at r → r ≡ cond (good at) (Some (after at)) None) {from : ℕ} (e : from ≡ line_at 0) (h : from ≤ length s) where
+  abbrev bad : ℕ → Bool
+  bad i = not (good (line_at i))
 
-  module _ {line at : ℕ} (k : Reaches s line_at bad line at) where
-    reaches_stop : {many : ℕ} → line < many → bad line ≡ true → PastLines s line_at bad many line at
-    reaches_stop h e = record { first_is = first_is k.clear h e; begins = k.begins; within = k.within }
+  reaches : {line at : ℕ} → Walked past from line at → Reaches s line_at bad line at
+  reaches none = record { clear = clear_none; begins = e; within = h }
+  reaches (more {line} {at} {next} w p) =
+      let k = reaches w in
+      let q = cond_some (good at) (after at) next (sym (is at (Some next) p)) in
+      record {
+        clear = rw (← add-one line) (clear_more k.clear (ap not (ap good (sym k.begins) ∙ q.0)));
+        begins = sym q.1 ∙ ap after k.begins ∙ sym (next_line line);
+        within = rw (← q.1) (within at q.0);
+      }
 
-    reaches_more : {next : ℕ} → bad line ≡ false → next ≡ line_at (suc line) → next ≤ length s → Reaches s line_at bad (line + 1) next
-    reaches_more e n h = record { clear = clear_more k.clear e; begins = n ∙ ap line_at (sym (add-one line)); within = h }
+  lines_passed : {lines line at : ℕ} → Passed past from lines line at → PastLines s line_at bad lines line at
+  lines_passed {lines} {line} {at} p =
+      let k = reaches p.walked in
+      record {
+        first_is =
+            ⊎_elim
+            (λ l. first_is k.clear l.1 (ap not (ap good (sym k.begins) ∙ cond_none (good at) (after at) (sym (is at None (p.stops l.1))))))
+            (λ l. first_end k.clear p.most l.1)
+            (lt_split line lines);
+        begins = k.begins;
+        within = k.within;
+      }
 
-    pub reaches_end : {many : ℕ} → line ≤ many → many ≤ line → PastLines s line_at bad many line at
-    reaches_end a b = record { first_is = first_end k.clear a b; begins = k.begins; within = k.within }
+module _ (s : List ℕ) where
+  -- line v of the vertices, and line i of the faces, is not as it should be
+  abbrev pub bad_vertex : ℕ → Bool
+  bad_vertex v = not (is_vertex s (vertex_at s v))
 
--- ---- the vertices
+  abbrev pub bad_line : ℕ → Bool
+  bad_line i = not (is_face s (face_line_at s i))
 
-module _ (s : List ℕ) (line at : ℕ) (k : Reaches s (vertex_at s) (bad_vertex s) line at) where
-  vertex_is : is_vertex s (vertex_at s line) ≡ is_vertex s at
-  vertex_is = ap (is_vertex s) (sym k.begins)
+  -- a step leads to a place in the text
+  pub vertex_step : (at next : ℕ) → Some next ≡ past_vertex s at → next ≤ length s
+  unfolding past_vertex
+  vertex_step at next e = let k = cond_some (is_vertex s at) (after_vertex s at) next (sym e) in rw (← k.1) (vertex_within s at k.0)
 
-  pub vertices_stop : (many : ℕ) → line < many → past.Bad ≡ past_vertex s at → PastLines s (vertex_at s) (bad_vertex s) many line at
-  vertices_stop many h e = reaches_stop k h (ap not (vertex_is ∙ vertex_missing s at e))
+  pub face_step : (at next : ℕ) → Some next ≡ past_face s at → next ≤ length s
+  unfolding past_face
+  face_step at next e = let k = cond_some (is_face s at) (after_face s at) next (sym e) in rw (← k.1) (face_within s at k.0)
 
-  pub vertices_more : (next : ℕ) → past.To next ≡ past_vertex s at → Reaches s (vertex_at s) (bad_vertex s) (line + 1) next
-  unfolding vertex_at
-  vertices_more next e =
-      let f = vertex_found s at next e in
-      reaches_more k (ap not (vertex_is ∙ f.is)) (f.next_is ∙ ap (after_vertex s) k.begins) f.within
+  module _ {past : ℕ → Option ℕ → Type 0} {from lines line at : ℕ} (h : from ≤ length s) (p : Passed past from lines line at) where
+    pub vertices_passed : ((at : ℕ) (r : Option ℕ) → past at r → r ≡ past_vertex s at) → from ≡ vertex_at s 0
+        → PastLines s (vertex_at s) bad_vertex lines line at
+    unfolding past_vertex vertex_at
+    vertices_passed is e = lines_passed s (is_vertex s) (after_vertex s) (vertex_at s) (λ i. refl) (vertex_within s) is e h p
 
--- ---- the faces
-
-module _ (s : List ℕ) (line at : ℕ) (k : Reaches s (face_line_at s) (bad_line s) line at) where
-  face_is : is_face s (face_line_at s line) ≡ is_face s at
-  face_is = ap (is_face s) (sym k.begins)
-
-  pub faces_stop : (many : ℕ) → line < many → past.Bad ≡ past_face s at → PastLines s (face_line_at s) (bad_line s) many line at
-  faces_stop many h e = reaches_stop k h (ap not (face_is ∙ face_missing s at e))
-
-  pub faces_more : (next : ℕ) → past.To next ≡ past_face s at → Reaches s (face_line_at s) (bad_line s) (line + 1) next
-  unfolding face_line_at
-  faces_more next e =
-      let f = face_found s at next e in
-      reaches_more k (ap not (face_is ∙ f.is)) (f.next_is ∙ ap (after_face s) k.begins) f.within
+    pub faces_passed : ((at : ℕ) (r : Option ℕ) → past at r → r ≡ past_face s at) → from ≡ face_line_at s 0
+        → PastLines s (face_line_at s) bad_line lines line at
+    unfolding past_face face_line_at
+    faces_passed is e = lines_passed s (is_face s) (after_face s) (face_line_at s) (λ i. refl) (face_within s) is e h p

@@ -1,27 +1,66 @@
--- What a loop sums up: the sum so far, and how large it may be. Assumes nothing.
-use Prim.Native.Nat.{ℕ, ◌+◌, ◌*◌, ◌≤◌, ◌<◌}
-use mathlib.Core.Path.{◌≡◌, refl, subst}
-use native.Mathlib.Nat.{le_antisymm, mul-suc, mul-le-mul}
+-- Chains that sum up what each number below n gives, and how much that is at most. Assumes nothing.
+use mathlib.Core.Path.{◌≡◌, refl, sym, ap, ◌∙◌}
+use mathlib.Core.List.{List, map}
+use Prim.Native.Nat.{ℕ, zero, suc, ◌+◌, ◌*◌, ◌≤◌, ◌<◌}
+use native.Mathlib.Nat.{mul-le-mul}
 use native.Mathlib.Numerals.{add-one}
 use native.Mathlib.Omega.{arith}
+use lib.IntN.{ℤ}
+use lib.ListN.{length, get_or}
+use denote.Param.Members.{Mut}
+use Rattle.std.specs.Bool.{⊤}
+use Rattle.std.specs.Fn.{Called}
+use Rattle.std.specs.Iterator.{Drains}
+use Rattle.std.specs.Iterator.Runs.{EachRunFrom}
+use Rattle.std.specs.Iterator.Adapters.{map_source, map_callee}
+use Rattle.std.specs.List.{fold, range_with_len, sum as total}
+use Rattle.std.specs.declared.iter.Map.{Map}
+use Rattle.std.specs.declared.ops.Range.{Range}
+use Rattle.std.proofs.iter.Yields.{nat_range_steps}
+use Rattle.std.proofs.lemmas.Iterator.{YieldsList, YieldsList-from_range, YieldsList-from_map, maps}
+use Rattle.std.proofs.lemmas.Iterator.Consumers.{sum_from_yields_List, fits_from_yields_list}
+use Rattle.std.proofs.lemmas.List.FromFn.{sum_by-map-range_with_len_more}
 use Rattle.mesh.specs.Limits.{valence_bound}
 use Rattle.mesh.specs.Search.{sum}
+use Rattle.rings.specs.Table.{coordinate_at}
+use Rattle.numerals.specs.Numerals.{digits}
+use Rattle.numerals.proofs.Digits.{digits_most, signed_fits}
+use Rattle.off_length.specs.Length.{point_length}
 
--- the sum of f 0, .., f (v - 1), each at most `most`
-pub record Summed (f : ℕ → ℕ) (most v size : ℕ) : Type 0 where
-  pub is : size ≡ sum f v
-  pub bound : size ≤ most * v
+range_sum : (f : ℕ → ℕ) (n : ℕ) → total (map f (range_with_len 0 n)) ≡ sum f n
+range_sum f zero = refl
+range_sum f (suc n) =
+    ap (λ m. total (map f (range_with_len 0 m))) (sym (add-one n))
+    ∙ sum_by-map-range_with_len_more (λ x. x) f 0 n n (omega arith)
+    ∙ ap (λ m. m + f n) (range_sum f n)
 
-pub summed_none : (f : ℕ → ℕ) (most : ℕ) → Summed f most 0 0
-summed_none f most = record { is = refl; bound = omega arith }
+module _ {F : Type 0} {g : Mut F (ℕ × Unit {0}) ℕ} {k : F} (f : ℕ → ℕ) (n : ℕ) (s : Map (Range ℕ) F) (source : map_source s ≡ record { start = 0; end = n })
+    (callee : map_callee s ≡ k) (says : (x r : ℕ) (q : F) → Called g k (x, tt) r q → (q ≡ k) × (r ≡ f x)) where
+  yields : YieldsList (maps nat_range_steps g) (λ r. r) s (map f (range_with_len 0 n))
+  yields = YieldsList-from_map g f (YieldsList-from_range 0 n n source (omega arith)) callee says
 
--- one more, and the last
-pub summed_more : {f : ℕ → ℕ} {most v size x : ℕ} → Summed f most v size → x ≡ f v → x ≤ most → Summed f most (v + 1) (size + x)
-summed_more {f} {most} {v} {size} {x} s e h = rw (add-one v) record { is = omega (arith, s.is); bound = omega (arith, s.bound, mul-suc most v) }
+  pub summed : (r : ℕ) → (xs : List ℕ) × (⊤ → Drains (maps nat_range_steps g) s xs) × (r ≡ fold (λ a x. a + x) 0 xs) → r ≡ sum f n
+  summed r ran = sum_from_yields_List s r ran yields ∙ range_sum f n
 
-pub summed_all : {f : ℕ → ℕ} {most v size : ℕ} (n : ℕ) → Summed f most v size → v ≤ n → n ≤ v → Summed f most n size
-summed_all {f} {most} {v} {size} n s a b = subst (λ (k : ℕ). Summed f most k size) (le_antisymm a b) s
+  pub sum_fits : (top : ℕ) → sum f n < top → EachRunFrom (maps nat_range_steps g) s (λ p. fold (λ a x. a + x) 0 p.items < top)
+  sum_fits top h = fits_from_yields_list s top yields (omega (arith, range_sum f n))
 
--- the digits of a vertex, as often as it has neighbours
-pub corner_most : (valence count : ℕ) → valence < valence_bound → count ≤ 20 → valence * count ≤ 1310720
-corner_most valence count h g = omega (arith, mul-le-mul {n₁ = valence} {m₁ = count} {n₂ = valence_bound} {m₂ = 20} (omega arith) g)
+-- ---- what one vertex gives at most
+
+pub point_most : (ps : List ℤ) (v : ℕ) → point_length ps v ≤ 66
+unfolding point_length
+point_most ps v =
+    omega (
+      arith,
+      signed_fits 0 22 (coordinate_at ps 0 v) 0 (omega arith),
+      signed_fits 0 22 (coordinate_at ps 1 v) 0 (omega arith),
+      signed_fits 0 22 (coordinate_at ps 2 v) 0 (omega arith),
+    )
+
+-- its digits, as often as it has neighbours
+abbrev pub corner_digits : List ℕ → ℕ → ℕ
+corner_digits vs v = get_or vs v 0 * length (digits 20 v)
+
+pub corner_most : (vs : List ℕ) → ((v : ℕ) → get_or vs v 0 < valence_bound) → (v : ℕ) → corner_digits vs v ≤ 1310720
+corner_most vs h v =
+    omega (arith, mul-le-mul {n₁ = get_or vs v 0} {m₁ = length (digits 20 v)} {n₂ = valence_bound} {m₂ = 20} (omega (arith, h v)) (digits_most 20 v))

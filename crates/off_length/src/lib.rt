@@ -26,13 +26,7 @@ fn points_length(positions: &[i32], count: usize) -> usize
     ensures value { result ≡ points_length positions.now count }
     ensures upper_bound { result ≤ 66 * count }
 {
-    let mut size = 0;
-    let mut v = 0;
-    while v < count {
-        size += point_length(positions, v);
-        v += 1;
-    }
-    size
+    (0..count).map(|v| point_length(positions, v)).sum()
 }
 
 // The digits of the corners of all faces.
@@ -42,13 +36,9 @@ fn corners_length(valences: &[u16], count: usize) -> usize
     ensures value { result ≡ corners_length valences.now count }
     ensures upper_bound { result ≤ 1310720 * count }
 {
-    let mut size = 0;
-    let mut v = 0;
-    while v < count {
-        size += valences[v] as usize * digit_count(v);
-        v += 1;
-    }
-    size
+    (0..count)
+        .map(|v| valences[v] as usize * digit_count(v))
+        .sum()
 }
 
 // The whole text of a mesh with these edges and faces.

@@ -2,18 +2,17 @@
 use Prim.Native.Nat.{ℕ, ◌+◌, ◌*◌, ◌≤◌, ◌<◌}
 use mathlib.Core.Path.{◌≡◌, refl, sym, ap, subst, ◌∙◌}
 use mathlib.Core.List.{List, [], ◌∷◌, ◌++◌}
-use native.Mathlib.Nat.{add-zero, le_antisymm}
+use native.Mathlib.Nat.{add-zero}
 use native.Mathlib.Numerals.{add-one}
 use native.Mathlib.Omega.{arith}
 use lib.IntN.{ℤ, pos}
 use lib.ListN.{length, get_or, set, length-append, length-set}
 use Rattle.rings.specs.Table.{gather, coordinate_at}
-use Rattle.file_format.specs.Blocks.{Put}
 use Rattle.file_format.proofs.Blocks.{put_none, put_one, put_length, then}
 use Rattle.file_format.proofs.Gathered.{gather_split}
 use Rattle.numerals.specs.Numerals.{blank, newline, number, signed}
 use Rattle.numerals.specs.Wrote.{Wrote}
-use Rattle.off_text.specs.WriteOff.{word, counts_line, vertex_line, face_line}
+use Rattle.off_text.specs.WriteOff.{counts_line, vertex_line, face_line}
 use Rattle.off_lines.specs.Written.{Written, line_of}
 
 pub written_length : {l m : List ℕ} {i k : ℕ} {a : List ℕ} → Written l i a m k → length m ≡ length l
@@ -37,13 +36,10 @@ written w = record { put = w.put; ends = w.ends }
 
 -- ---- lines
 
--- one line more, and the last
+-- one line more
 pub lines_more : {l m n : List ℕ} {i k e : ℕ} (f : ℕ → List ℕ) (v : ℕ) → Written l i (gather f v) m k → Written m k (f v) n e
     → Written l i (gather f (v + 1)) n e
 lines_more f v p q = rw add-one (written_then p q)
-
-pub lines_all : {l m : List ℕ} {i k : ℕ} (f : ℕ → List ℕ) (v n : ℕ) → Written l i (gather f v) m k → v ≤ n → n ≤ v → Written l i (gather f n) m k
-lines_all {l} {m} {i} {k} f v n p a b = subst (λ (x : ℕ). Written l i (gather f x) m k) (le_antisymm a b) p
 
 -- there is room for line v behind those before it, where there is for n lines
 pub line_fits : (f : ℕ → List ℕ) (v n : ℕ) → v < n → length (gather f v) + length (f v) ≤ length (gather f n)
@@ -101,13 +97,3 @@ module _ (a b c : ℕ) where
       let head : Written l i (51 ∷ blank ∷ []) (set (set l i 51) (i + 1) blank) (i + 2) =
       record { put = then (put_one (omega arith)) (put_one (simp length-set (omega arith))) refl; ends = refl } in
       written_then head (written_then (written x) (written_then (written y) (written z)))
-
-pub word_put : (l : List ℕ) → 4 ≤ length l → Put l 0 word (set (set (set (set l 0 79) 1 70) 2 70) 3 newline)
-word_put l h =
-    then
-    (then
-    (then (put_one (omega arith)) (put_one (simp length-set (omega arith))) refl)
-    (put_one (simp length-set (omega arith)))
-    refl)
-    (put_one (simp length-set (omega arith)))
-    refl

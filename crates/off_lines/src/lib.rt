@@ -14,10 +14,7 @@ pub fn put_word(text: &mut [u8])
     requires { 4 ≤ length text.old }
     ensures { Put text.old 0 word text.new }
 {
-    text[0] = b'O';
-    text[1] = b'F';
-    text[2] = b'F';
-    text[3] = NEWLINE;
+    text[..4].copy_from_slice(b"OFF\n");
 }
 
 // V, F and E.
@@ -48,10 +45,8 @@ pub fn put_vertices(text: &mut [u8], at: usize, positions: &[i32], count: usize)
     ensures { Written text.old at (gather (line_of positions.now) count) text.new result }
 {
     let mut end = at;
-    let mut v = 0;
-    while v < count {
+    for v in 0..count {
         end = put_vertex(text, end, positions, v);
-        v += 1;
     }
     end
 }

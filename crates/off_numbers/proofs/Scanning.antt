@@ -4,17 +4,15 @@ use mathlib.Core.Bool.{Bool, true, false, not, ◌&&◌}
 use mathlib.Core.List.{List}
 use mathlib.Core.Logic.{⊎_elim}
 use Prim.Native.Nat.{ℕ, zero, suc, ◌+◌, ◌-◌, ◌*◌, ◌≤◌, ◌<◌}
-use native.Mathlib.Nat.{add-zero}
 use native.Mathlib.Numerals.{add-one}
 use native.Mathlib.Omega.{arith}
 use lib.Dec.{leb, ltb, eqb}
-use lib.ListN.{length, get_or, get_or-eq_default}
-use borrow.Author.Tests.{eq-eqb, ne_eqb, eqb-true, le-ltb, lt-ltb, ltb-true, leb-true, le-leb, lt-leb, not-false}
+use lib.ListN.{length, get_or-eq_default}
+use borrow.Author.Tests.{eqb-true, ltb-true, leb-true}
 use Rattle.mesh.specs.Search.{first}
 use Rattle.mesh.proofs.Lists.{climbs, lt_split}
 use Rattle.mesh.proofs.First.{Clear, clear_more, clear_none, first_is, first_end, true_not_false}
-use Rattle.off_numbers.specs.declared.Number.TheVariants.{Of, Bad}
-use Rattle.off_numbers.specs.Text.{byte_at, digit_at, no_digit, run_at, value_of, value_at, after_at, padded, is_number, number_at}
+use Rattle.off_numbers.specs.Text.{byte_at, digit_at, no_digit, run_at, value_of, value_at, after_at, padded, is_number}
 use Rattle.off_numbers.specs.Scanned.{Digits}
 
 pub and_true : (a b : Bool) → a && b ≡ true → (a ≡ true) × (b ≡ true)
@@ -27,21 +25,11 @@ pub byte_past : (s : List ℕ) (at i : ℕ) → at ≤ length s → length s - a
 unfolding byte_at
 byte_past s at i h g = sym (get_or-eq_default s 0 (omega arith))
 
-pub byte_here : (s : List ℕ) (at i : ℕ) → get_or s (at + i) 0 ≡ byte_at s (at + i)
-unfolding byte_at
-byte_here s at i = refl
-
 -- a byte that is not 0 stands in the text
 pub byte_within : (s : List ℕ) (at b : ℕ) → byte_at s at ≡ b → 0 < b → at < length s
 unfolding byte_at
 byte_within s at b e h =
     ⊎_elim (λ q. q.1) (λ q. absurd (omega (arith, get_or-eq_default s 0 q.1))) (lt_split at (length s))
-
-pub digit_low : (b : ℕ) → b < 48 → false ≡ (leb 48 b && leb b 57)
-digit_low b h = rw (lt-leb 48 b h)
-
-pub digit_high : (b : ℕ) → 48 ≤ b → leb b 57 ≡ (leb 48 b && leb b 57)
-digit_high b h = rw (le-leb 48 b h)
 
 -- ---- the scan
 
@@ -77,61 +65,27 @@ module _ (s : List ℕ) (at count value byte : ℕ) (r : Bool) (is : byte ≡ by
       let d = and_true (leb 48 byte) (leb byte 57) (sym test ∙ e) in
       (leb-true 48 byte d.0, leb-true byte 57 d.1)
 
-  pub scan_stop : Scan s at count value → count < 11 → not r ≡ true → Digits s at count value
+  pub scan_stop : Scan s at count value → count < 11 → r ≡ false → Digits s at count value
   unfolding run_at value_at
   scan_stop k h e =
-      let i : count ≡ first (no_digit s at) 11 = first_is k.clear h (ap not (sym digit_of) ∙ e) in
+      let i : count ≡ first (no_digit s at) 11 = first_is k.clear h (ap not (sym digit_of ∙ e)) in
       record { run = i; worth = k.worth ∙ ap (value_of s at) i }
 
-  pub scan_more : Scan s at count value → not r ≡ false → Scan s at (count + 1) (value * 10 + (byte - 48))
+  pub scan_more : Scan s at count value → r ≡ true → Scan s at (count + 1) (value * 10 + (byte - 48))
   unfolding value_of nines
   scan_more k e =
-      let d = digit_range (not-false r e) in
+      let d = digit_range e in
       record {
-        clear = clear_more k.clear (ap not (sym digit_of) ∙ e);
+        clear = clear_more k.clear (ap not (sym digit_of ∙ e));
         worth = rw (add-one count, k.worth, is);
         most = rw (add-one count) (omega (arith, k.most));
       }
 
-pub scan_end : {s : List ℕ} {at count value : ℕ} → Scan s at count value → count ≤ 11 → 11 ≤ count → Digits s at count value
+pub scan_end : {s : List ℕ} {at count value : ℕ} → Scan s at count value → count ≤ 11 → 11 ≤ count → Digits s at 11 value
 unfolding run_at value_at
 scan_end {s} {at} {count} {value} k a b =
     let i : count ≡ first (no_digit s at) 11 = first_end k.clear a b in
-    record { run = i; worth = k.worth ∙ ap (value_of s at) i }
-
--- ---- the number
-
-pub padded_one : (s : List ℕ) (at k : ℕ) → k ≡ 1 → false ≡ padded s at k
-unfolding padded
-padded_one s at k e = rw (eq-eqb k 1 e)
-
-pub padded_more : (s : List ℕ) (at k byte : ℕ) → (k ≡ 1 → ⊥) → byte ≡ byte_at s (at + 0) → eqb byte 48 ≡ padded s at k
-unfolding padded
-padded_more s at k byte n e = rw (ne_eqb k 1 n, e, add-zero at)
-
-module _ (s : List ℕ) (at bound last count value : ℕ) (d : Digits s at count value) where
-  pub number_empty : count ≡ 0 → Bad ≡ number_at s at bound last
-  unfolding number_at is_number
-  number_empty e = rw (← d.run, eq-eqb count 0 e)
-
-  module _ (c : count ≡ 0 → ⊥) (p : Bool) (pad : p ≡ padded s at count) where
-    pub number_padded : p ≡ true → Bad ≡ number_at s at bound last
-    unfolding number_at is_number
-    number_padded e = rw (← d.run, ne_eqb count 0 c, ← pad, e)
-
-    module _ (np : p ≡ false) where
-      pub number_beyond : bound ≤ value → Bad ≡ number_at s at bound last
-      unfolding number_at is_number
-      number_beyond h = rw (← d.run, ne_eqb count 0 c, ← pad, np, ← d.worth, le-ltb value bound h)
-
-      module _ (b : value < bound) (byte : ℕ) (is : byte ≡ byte_at s (at + count)) where
-        pub number_other : (byte ≡ last → ⊥) → Bad ≡ number_at s at bound last
-        unfolding number_at is_number
-        number_other h = rw (← d.run, ne_eqb count 0 c, ← pad, np, ← d.worth, lt-ltb value bound b, ← is, ne_eqb byte last h)
-
-        pub number_is : byte ≡ last → Of value (at + count + 1) ≡ number_at s at bound last
-        unfolding number_at is_number after_at
-        number_is h = rw (← d.run, ne_eqb count 0 c, ← pad, np, ← d.worth, lt-ltb value bound b, ← is, eq-eqb byte last h)
+    record { run = omega (arith, i); worth = k.worth ∙ ap (value_of s at) i }
 
 -- ---- a number that is known to stand there
 

@@ -1,10 +1,9 @@
 -- To be believed.
 -- Decimal numbers in a text (order 4): whole numbers with no plus sign, no -0 and no zeros in front, each with the byte behind it.
 -- Assumes nothing.
-use Rattle.std.specs.Prelude.{Bool, cond, not, ◌&&◌, List, ℕ, zero, suc, ◌+◌, ◌-◌, ◌*◌, leb, ltb, eqb, ℤ, pos, negsuc, get_or}
+use Rattle.std.specs.Prelude.{Bool, cond, not, ◌&&◌, List, ℕ, zero, suc, ◌+◌, ◌-◌, ◌*◌, leb, ltb, eqb, ℤ, pos, negsuc, Option, Some, None, get_or}
 use Rattle.mesh.specs.Search.{bit, first}
 use Rattle.off_numbers.specs.declared.Number.{Number}
-use Rattle.off_numbers.specs.declared.Number.TheVariants.{Of, Bad}
 
 -- how many numbers 32 bits hold, and how many of them are not below 0
 abbrev pub numbers32 : ℕ
@@ -77,5 +76,5 @@ module _ (s : List ℕ) where
   after_unit at = after_at (body_at at)
 
   -- what a judge finds there: the number and the place behind it, or none of that kind
-  unfoldable pub number_at : ℕ → ℕ → ℕ → Number
-  number_at at bound last = cond (is_number at bound last) (Of (value_at at) (after_at at)) Bad
+  unfoldable pub number_at : ℕ → ℕ → ℕ → Option Number
+  number_at at bound last = cond (is_number at bound last) (Some (record { value = value_at at; next = after_at at })) None

@@ -16,11 +16,11 @@ pub const MINUS: usize = 45;
 
 pub const WHOLE: usize = 4294967296;
 
-// A number, and the place behind the byte that follows it; or something else.
+// A number, and the place behind the byte that follows it.
 #[derive(Clone, Copy)]
-pub enum Number {
-    Of { value: usize, next: usize },
-    Bad,
+pub struct Number {
+    pub value: usize,
+    pub next: usize,
 }
 
 // A row of digits: how many there are, and their value.
@@ -36,20 +36,14 @@ pub fn byte_on(text: &[u8], at: usize, i: usize) -> usize
     ensures value { result ≡ byte_at text.now (at + i) }
     ensures upper_bound { result < 256 }
 {
-    if text.len() - at <= i {
-        return 0;
-    }
-    text[at + i] as usize
+    usize::from(text[at..].get(i).copied().unwrap_or(0))
 }
 
 // Is this byte a digit?
 fn is_digit(byte: usize) -> bool
     ensures { result ≡ (leb 48 byte && leb byte 57) }
 {
-    if byte < ZERO {
-        return false;
-    }
-    byte <= NINE
+    ZERO <= byte && byte <= NINE
 }
 
 // How many digits stand from a place on, and their value.
@@ -57,22 +51,17 @@ fn run_at(text: &[u8], at: usize) -> Run
     requires { at ≤ length text.now }
     ensures { Digits text.now at result.count result.value }
 {
-    let mut count = 0;
     let mut value = 0;
-    while count < MOST_DIGITS {
+    for count in 0..MOST_DIGITS {
         let byte = byte_on(text, at, count);
         if !is_digit(byte) {
-            return Run {
-                count: count,
-                value: value,
-            };
+            return Run { count, value };
         }
         value = value * 10 + (byte - ZERO);
-        count += 1;
     }
     Run {
-        count: count,
-        value: value,
+        count: MOST_DIGITS,
+        value,
     }
 }
 
@@ -81,35 +70,25 @@ fn is_padded(text: &[u8], at: usize, count: usize) -> bool
     requires { at ≤ length text.now }
     ensures { result ≡ padded text.now at count }
 {
-    if count == 1 {
-        return false;
-    }
-    byte_on(text, at, 0) == ZERO
+    count != 1 && byte_on(text, at, 0) == ZERO
 }
 
 // The number at a place, if it is below the bound and this byte, which is not 0, stands behind it.
-pub fn number_at(text: &[u8], at: usize, bound: usize, last: usize) -> Number
+pub fn number_at(text: &[u8], at: usize, bound: usize, last: usize) -> Option<Number>
     requires at_in_bounds { at ≤ length text.now }
     requires last_nonzero { 0 < last }
     ensures { result ≡ number_at text.now at bound last }
 {
-    let run = run_at(text, at);
-    let count = run.count;
-    let value = run.value;
-    if count == 0 {
-        return Number::Bad;
+    let Run { count, value } = run_at(text, at);
+    if count == 0
+        || is_padded(text, at, count)
+        || bound <= value
+        || byte_on(text, at, count) != last
+    {
+        return None;
     }
-    if is_padded(text, at, count) {
-        return Number::Bad;
-    }
-    if bound <= value {
-        return Number::Bad;
-    }
-    if byte_on(text, at, count) != last {
-        return Number::Bad;
-    }
-    Number::Of {
-        value: value,
+    Some(Number {
+        value,
         next: at + count + 1,
-    }
+    })
 }

@@ -2,18 +2,19 @@
 -- Assumes nothing.
 use mathlib.Core.Path.{◌≡◌, refl, sym, ap, ◌∙◌}
 use mathlib.Core.Bool.{Bool, true, false}
-use mathlib.Core.List.{List}
-use Prim.Native.Nat.{ℕ, ◌+◌, ◌*◌, ◌≤◌, ◌<◌}
+use mathlib.Core.List.{List, [], ◌∷◌}
+use Prim.Native.Nat.{ℕ, ◌+◌, ◌-◌, ◌*◌, ◌≤◌, ◌<◌}
 use native.Mathlib.Numerals.{add-one}
 use native.Mathlib.Omega.{arith}
 use lib.IntN.{ℤ}
-use lib.ListN.{length, set, length-set}
+use lib.ListN.{length}
+use lib.Seq.{drop-drop}
+use borrow.Rule.Slice.PartMut.{put_mid}
 use Rattle.mesh.proofs.First.{Clear, clear_none, clear_more}
-use Rattle.units.specs.Coordinate.{beyond}
-use Rattle.rings.specs.Table.{point_rows}
+use Rattle.rings.specs.Table.{put, point_rows}
 use Rattle.rings.proofs.Tables.{length_gather}
 use Rattle.file_format.specs.Blocks.{Put}
-use Rattle.file_format.proofs.Blocks.{put_none, put_one, put_length, then, rows_next, rows_all}
+use Rattle.file_format.proofs.Blocks.{put_none, put_length, rows_next, rows_all}
 use Rattle.off_numbers.specs.Text.{is_unit, unit_at, after_unit}
 use Rattle.off_numbers.specs.Scanned.{UnitThere}
 use Rattle.off_numbers.proofs.Scanning.{and_true}
@@ -65,22 +66,6 @@ module _ {s : List ℕ} {v at : ℕ} (l : VertexLine s v at) where
             next_is = rw (add-one v) (next_is ∙ ap (after_unit s) q');
           }
 
--- ---- beyond the range
-
-module _ {s : List ℕ} {v next : ℕ} {x y z : ℤ} (k : PointRead s v x y z next) {a : Bool} (p : a ≡ beyond x) where
-  pub far_x : a ≡ true → true ≡ text_beyond s v
-  unfolding text_beyond
-  far_x h = rw (← k.x_is, ← p, h)
-
-  module _ (h : a ≡ false) {b : Bool} (q : b ≡ beyond y) where
-    pub far_y : b ≡ true → true ≡ text_beyond s v
-    unfolding text_beyond
-    far_y g = rw (← k.x_is, ← p, h, ← k.y_is, ← q, g)
-
-    pub far_z : b ≡ false → {c : Bool} → c ≡ beyond z → c ≡ text_beyond s v
-    unfolding text_beyond
-    far_z g r = rw (← k.x_is, ← p, h, ← k.y_is, ← q, g, ← k.z_is) r
-
 -- ---- vertex by vertex
 
 pub line_of : {s : List ℕ} {count from v at : ℕ} → VertexLines s count from → v < count → at ≡ vertex_at s v → VertexLine s v at
@@ -100,11 +85,10 @@ searched_more k e h n = record { here = n; clear = clear_more k.clear (sym e ∙
 
 -- ---- the points written
 
-pub row_written : {s : List ℕ} {v next : ℕ} {x y z x' y' z' : ℤ} {l : List ℤ} → PointRead s v x y z next → x' ≡ x → y' ≡ y → z' ≡ z
-    → v * 3 + 3 ≤ length l → Put l (v * 3) (point_row s v) (set (set (set l (v * 3) x') (v * 3 + 1) y') (v * 3 + 2) z')
-row_written k e f g h =
-    rw (← k.x_is, ← k.y_is, ← k.z_is, ← e, ← f, ← g)
-    (then (then (put_one (omega arith)) (put_one (simp length-set (omega arith))) refl) (put_one (simp length-set (omega arith))) refl)
+pub row_written : {s : List ℕ} {v next : ℕ} {x y z : ℤ} {l row : List ℤ} → PointRead s v x y z next → row ≡ x ∷ y ∷ z ∷ [] → v * 3 + 3 ≤ length l
+    → Put l (v * 3) (point_row s v) (put_mid (v * 3) (v * 3 + 3 - v * 3) l row)
+unfolding put
+row_written {v = v} k e h = record { fits = h; is = let w : v * 3 + 3 - v * 3 ≡ 3 = omega arith in rw (w, drop-drop, e, k.x_is, k.y_is, k.z_is) }
 
 -- the points below v are written, and the line of v begins here
 pub record FilledTo (s : List ℕ) (old new : List ℤ) (at v : ℕ) : Type 0 where

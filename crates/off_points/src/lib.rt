@@ -51,22 +51,9 @@ fn far_at(text: &[u8], at: usize, v: usize) -> Far
     ensures next_value { result.next ≡ vertex_at text.now (v + 1) }
 {
     let line = point_at(text, at, v);
-    let next = line.next;
-    if is_beyond(line.x) {
-        return Far {
-            far: true,
-            next: next,
-        };
-    }
-    if is_beyond(line.y) {
-        return Far {
-            far: true,
-            next: next,
-        };
-    }
     Far {
-        far: is_beyond(line.z),
-        next: next,
+        far: is_beyond(line.x) || is_beyond(line.y) || is_beyond(line.z),
+        next: line.next,
     }
 }
 
@@ -76,16 +63,14 @@ pub fn first_far(text: &[u8], from: usize, count: usize) -> usize
     ensures { result ≡ first (text_beyond text.now) count }
 {
     let mut at = from;
-    let mut v = 0;
-    while v < count {
+    for v in 0..count {
         let here = far_at(text, at, v);
         if here.far {
             return v;
         }
         at = here.next;
-        v += 1;
     }
-    v
+    count
 }
 
 // Writes the point of vertex v, whose line begins at a place, and answers where the next line begins.
@@ -96,12 +81,7 @@ fn fill_point(text: &[u8], at: usize, positions: &mut [i32], v: usize) -> usize
     ensures value { result ≡ vertex_at text.now (v + 1) }
 {
     let line = point_at(text, at, v);
-    let x = line.x;
-    let y = line.y;
-    let z = line.z;
-    positions[v * 3] = x;
-    positions[v * 3 + 1] = y;
-    positions[v * 3 + 2] = z;
+    positions[v * 3..v * 3 + 3].copy_from_slice(&[line.x, line.y, line.z]);
     line.next
 }
 
@@ -112,9 +92,7 @@ pub fn fill_points(text: &[u8], from: usize, positions: &mut [i32], count: usize
     ensures { Put positions.old 0 (point_rows (text_point text.now) count) positions.new }
 {
     let mut at = from;
-    let mut v = 0;
-    while v < count {
+    for v in 0..count {
         at = fill_point(text, at, positions, v);
-        v += 1;
     }
 }

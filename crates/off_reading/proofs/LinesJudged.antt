@@ -14,7 +14,6 @@ use Rattle.mesh.specs.Search.{first}
 use Rattle.mesh.proofs.First.{first_same, first_le, first_clear, or_false}
 use Rattle.rings.specs.Table.{Lent, put, valence_rows, ring_rows}
 use Rattle.rings.specs.declared.Refusal.TheVariants.{OpenRing, RingImproper, ControlCoordinate}
-use Rattle.rings.specs.declared.Verdict.TheVariants.{Accepted, Refused}
 use Rattle.rings.proofs.Verdicts.{at_hit, at_pass}
 use Rattle.file_format.proofs.Gathered.{from_start}
 use Rattle.off_rings.specs.Faces.{faces_at, twisted, unfit_faces}
@@ -26,6 +25,7 @@ use Rattle.off_blocks.specs.Blocks.{Tables}
 use Rattle.off_judge.specs.Judging.{open_at, Judged}
 use Rattle.off_filling.specs.Filling.{Fillable, Filled}
 use Rattle.off_reading.specs.Reading.{Lines}
+use Rattle.std.specs.Prelude.{Ok, Err}
 
 -- the tables of the function's own are as long as blocks need them
 pub tables_long : Tables (replicate 128 0) (replicate 1024 0) (replicate 1024 0)
@@ -43,7 +43,7 @@ module _ {s : List ℕ} {count faces points corners : ℕ} {t : Lent} {ps : List
         ∙ first_same (open_at s) (twisted (text_count s) (text_faces s) (text_face s)) (text_count s) (λ v h.
         sym (twisted_open (text_count s) (text_faces s) (text_face s) (fine_faces L.face_lines) v))
 
-    pub open_refuses : opens < count → Refused (OpenRing opens) ≡ faces_verdict s
+    pub open_refuses : opens < count → Err (OpenRing opens) ≡ faces_verdict s
     unfolding faces_verdict
     open_refuses h = at_hit _ _ _ _ _ open_is (omega (arith, L.count_is))
 
@@ -54,7 +54,7 @@ module _ {s : List ℕ} {count faces points corners : ℕ} {t : Lent} {ps : List
       fault_is : fault ≡ first (unfit_faces (text_count s) (text_faces s) (text_face s)) (text_count s)
       fault_is = J.fault_is all_close
 
-      pub unfit_refuses : fault < count → Refused (RingImproper fault) ≡ faces_verdict s
+      pub unfit_refuses : fault < count → Err (RingImproper fault) ≡ faces_verdict s
       unfolding faces_verdict
       unfit_refuses h = at_hit _ _ _ _ _ fault_is (omega (arith, L.count_is)) ∙ sym (at_pass _ _ _ _ _ open_is (omega (arith, L.count_is)))
 
@@ -62,14 +62,14 @@ module _ {s : List ℕ} {count faces points corners : ℕ} {t : Lent} {ps : List
         rest : {far : ℕ} → far ≡ first (text_beyond s) count → far ≡ first (text_beyond s) (text_count s)
         rest {far} e = subst (λ n. far ≡ first (text_beyond s) n) L.count_is e
 
-        pub far_refuses : {far : ℕ} → far ≡ first (text_beyond s) count → far < count → Refused (ControlCoordinate far) ≡ faces_verdict s
+        pub far_refuses : {far : ℕ} → far ≡ first (text_beyond s) count → far < count → Err (ControlCoordinate far) ≡ faces_verdict s
         unfolding faces_verdict
         far_refuses e h =
             at_hit _ _ _ _ _ (rest e) (omega (arith, L.count_is))
             ∙ sym (at_pass _ _ _ _ _ fault_is (omega (arith, L.count_is)))
             ∙ sym (at_pass _ _ _ _ _ open_is (omega (arith, L.count_is)))
 
-        pub all_accepted : {far : ℕ} → far ≡ first (text_beyond s) count → count ≤ far → Accepted ≡ faces_verdict s
+        pub all_accepted : {far : ℕ} → far ≡ first (text_beyond s) count → count ≤ far → (Ok tt) ≡ faces_verdict s
         unfolding faces_verdict
         all_accepted e h =
             sym

@@ -6,54 +6,55 @@ use Prim.Native.Nat.{ℕ, ◌≤◌, ◌<◌}
 use native.Mathlib.Omega.{arith}
 use lib.IntN.{ℤ}
 use borrow.Author.Tests.{not-false}
+use Rattle.std.specs.Prelude.{Ok, Err}
 use Rattle.mesh.proofs.First.{Clear}
 use Rattle.rings.specs.Table.{Lent, put, valence_rows, ring_rows, point_rows}
 use Rattle.rings.specs.Verdict.{and_then, after, with_amount}
 use Rattle.rings.specs.Check.{bad_count, short_tables}
 use Rattle.rings.specs.declared.Refusal.{Refusal}
 use Rattle.rings.specs.declared.Refusal.TheVariants.{TableTooShort, VertexCount}
-use Rattle.rings.specs.declared.Verdict.{Verdict}
-use Rattle.rings.specs.declared.Verdict.TheVariants.{Accepted, Refused}
-use Rattle.rings.specs.declared.Amount.{Amount}
-use Rattle.rings.specs.declared.Amount.TheVariants as amount
 use Rattle.rings.proofs.Verdicts.{if_hit, if_pass, if_accepted, at_accepted}
 use Rattle.rings.proofs.Checks.{told_most, long_tables}
 use Rattle.off_text.specs.Layout.{is_counts, text_count, text_faces, vertex_at, face_line_at, text_point, text_verdict}
 use Rattle.off_text.specs.ReadOff.{text_ring, faces_verdict, read_off_verdict, read_off_answer, read_off_valences, read_off_rings, read_off_positions}
-use Rattle.off_layout.specs.Judging.{head_of, bad_vertex, bad_line, with_text, judged_text}
-use Rattle.off_layout.specs.declared.Text.TheVariants as judged
-use Rattle.off_layout.proofs.Lines.{head_found}
+use Rattle.off_layout.specs.declared.Text.{Text}
+use Rattle.off_layout.specs.Judging.{with_text, judged_text}
+use Rattle.off_layout.proofs.Judged.{counts_within}
+use Rattle.off_layout.proofs.Reaching.{bad_vertex, bad_line}
 use Rattle.off_reading.specs.Reading.{Lines}
+use Rattle.rings.specs.Refusal.{Amount, Verdict}
 
 -- ---- what the judge hands on
 
 -- a text that is as it should be: V, F, and where the vertices and the faces begin
 pub record Whole (s : List ℕ) (count faces points corners : ℕ) : Type 0 where
-  pub accepted : text_verdict s ≡ Accepted
+  pub accepted : text_verdict s ≡ (Ok tt)
   pub count_is : count ≡ text_count s
   pub faces_is : faces ≡ text_faces s
   pub points_is : points ≡ vertex_at s 0
   pub corners_is : corners ≡ face_line_at s 0
 
 module _ (s : List ℕ) where
-  pub whole_told : (count faces points corners : ℕ) → judged_text s ≡ judged.Whole count faces points corners → Whole s count faces points corners
+  pub whole_told : (t : Text) → judged_text s ≡ Ok t → Whole s t.count t.faces t.points t.corners
   unfolding judged_text with_text
-  whole_told count faces points corners h = go (text_verdict s) refl h
+  whole_told t h = go (text_verdict s) refl h
     where
-      go : (w : Verdict) → text_verdict s ≡ w → with_text s w ≡ judged.Whole count faces points corners → Whole s count faces points corners
-      go Accepted e g = record { accepted = e; count_is = cc; faces_is = cc; points_is = cc; corners_is = cc }
-      go (Refused r) e g = absurd (let z : ◌≡◌ {A = ℕ} 0 1 = cc in omega arith)
+      go : (w : Verdict) → text_verdict s ≡ w → with_text s w ≡ Ok t → Whole s t.count t.faces t.points t.corners
+      go (Ok u) e g =
+          let k : t ≡ record { count = text_count s; faces = text_faces s; points = vertex_at s 0; corners = face_line_at s 0 } = cc in
+          record { accepted = e; count_is = ap (λ (x : Text). x.count) k; faces_is = ap (λ (x : Text). x.faces) k; points_is = ap (λ (x : Text). x.points) k; corners_is = ap (λ (x : Text). x.corners) k }
+      go (Err r) e g = absurd (let z : ◌≡◌ {A = ℕ} 0 1 = cc in omega arith)
 
-  pub refusal_told : (r : Refusal) → judged_text s ≡ judged.Refused r → text_verdict s ≡ Refused r
+  pub refusal_told : (r : Refusal) → judged_text s ≡ Err r → text_verdict s ≡ Err r
   unfolding judged_text with_text
   refusal_told r h = go (text_verdict s) refl h
     where
-      go : (w : Verdict) → text_verdict s ≡ w → with_text s w ≡ judged.Refused r → text_verdict s ≡ Refused r
-      go Accepted e g = absurd (let z : ◌≡◌ {A = ℕ} 0 1 = cc in omega arith)
-      go (Refused q) e g = let k : q ≡ r = cc in e ∙ ap Refused k
+      go : (w : Verdict) → text_verdict s ≡ w → with_text s w ≡ Err r → text_verdict s ≡ Err r
+      go (Ok u) e g = absurd (let z : ◌≡◌ {A = ℕ} 0 1 = cc in omega arith)
+      go (Err q) e g = let k : q ≡ r = cc in e ∙ ap Err k
 
   -- its lines
-  module _ (a : text_verdict s ≡ Accepted) where
+  module _ (a : text_verdict s ≡ (Ok tt)) where
     stages : (is_counts s ≡ true) × (Clear (bad_vertex s) (text_count s) × Clear (bad_line s) (text_faces s))
     unfolding text_verdict
     stages =
@@ -64,8 +65,7 @@ module _ (s : List ℕ) where
         (not-false (is_counts s) c.0, (v.0, f.0))
 
     few_faces : text_faces s < 4294967296
-    unfolding head_of
-    few_faces = (head_found s (text_count s) (text_faces s) (vertex_at s 0) (rw stages.0)).faces_small
+    few_faces = (counts_within s stages.0).1.0
 
 module _ {s : List ℕ} {count faces points corners : ℕ} (T : Whole s count faces points corners) where
   lines_good : {t : Lent} {ps : List ℤ} → count ≤ 1024 → short_tables count t ps ≡ false → Lines s count faces points corners t ps
@@ -95,21 +95,21 @@ module _ (s : List ℕ) (t : Lent) (ps : List ℤ) where
       (answer ≡ read_off_answer s t ps)
       × ((t'.valences ≡ read_off_valences s t ps) × ((t'.rings ≡ read_off_rings s t ps) × (ps' ≡ read_off_positions s t ps)))
 
-  refused : (r : Refusal) → read_off_verdict s t ps ≡ Refused r → Left (amount.Refused r) t ps
+  refused : (r : Refusal) → read_off_verdict s t ps ≡ Err r → Left (Err r) t ps
   unfolding read_off_answer read_off_valences read_off_rings read_off_positions with_amount after
   refused r v = (rw v, (rw v, (rw v, rw v)))
 
-  pub text_refused : (r : Refusal) → text_verdict s ≡ Refused r → Left (amount.Refused r) t ps
+  pub text_refused : (r : Refusal) → text_verdict s ≡ Err r → Left (Err r) t ps
   unfolding read_off_verdict and_then
   text_refused r e = refused r (rw e)
 
   module _ {count faces points corners : ℕ} (T : Whole s count faces points corners) where
-    pub count_refused : (b : Bool) → b ≡ bad_count count → b ≡ true → Left (amount.Refused VertexCount) t ps
+    pub count_refused : (b : Bool) → b ≡ bad_count count → b ≡ true → Left (Err VertexCount) t ps
     unfolding read_off_verdict and_then
     count_refused b e h = refused VertexCount (rw T.accepted (sym (if_hit _ _ _ b (e ∙ ap bad_count T.count_is) h)))
 
     module _ (b : Bool) (e : b ≡ bad_count count) (h : b ≡ false) where
-      pub short_refused : (l : Bool) → l ≡ short_tables count t ps → l ≡ true → Left (amount.Refused TableTooShort) t ps
+      pub short_refused : (l : Bool) → l ≡ short_tables count t ps → l ≡ true → Left (Err TableTooShort) t ps
       unfolding read_off_verdict and_then
       short_refused l d g =
           refused TableTooShort
@@ -131,18 +131,18 @@ module _ (s : List ℕ) (t : Lent) (ps : List ℤ) where
             (v-is : t'.valences ≡ after w (put t.valences 0 (valence_rows (text_ring s) count)) t.valences)
             (r-is : t'.rings ≡ after w (put t.rings 0 (ring_rows (text_ring s) count)) t.rings)
             (p_is : ps' ≡ after w (put ps 0 (point_rows (text_point s) count)) ps) where
-          pub lines_refused : (r : Refusal) → w ≡ Refused r → Left (amount.Refused r) t' ps'
+          pub lines_refused : (r : Refusal) → w ≡ Err r → Left (Err r) t' ps'
           unfolding after
           lines_refused r q =
               let k = refused r (rest ∙ sym is ∙ q) in
               (k.0, (v-is ∙ rw q k.1.0, (r-is ∙ rw q k.1.1.0, p_is ∙ rw q k.1.1.1)))
 
-          pub lines_accepted : w ≡ Accepted → Left (amount.Of count) t' ps'
+          pub lines_accepted : w ≡ (Ok tt) → Left (Ok count) t' ps'
           unfolding read_off_answer read_off_valences read_off_rings read_off_positions with_amount after
           lines_accepted q =
-              let v : read_off_verdict s t ps ≡ Accepted = rest ∙ sym is ∙ q in
+              let v : read_off_verdict s t ps ≡ (Ok tt) = rest ∙ sym is ∙ q in
               let n = T.count_is in (
-                rw v (ap amount.Of n),
+                rw v (ap Ok n),
                 (
                   v-is ∙ rw (q, v) (ap (λ k. put t.valences 0 (valence_rows (text_ring s) k)) n),
                   (

@@ -14,8 +14,8 @@ use off_filling::fill_rings;
 use off_judge::judge_vertices;
 use off_layout::{Text, judge_text};
 use off_points::{fill_points, first_far};
+use rings::Refusal;
 use rings::table::{is_bad_count, is_short};
-use rings::{Amount, Refusal, Verdict};
 
 // Judges the faces and the points, 21, 4 and 7, and writes the tables where all is accepted. The small tables are its own.
 fn read_lines(
@@ -27,7 +27,7 @@ fn read_lines(
     valences: &mut [u16],
     rings: &mut [Vertex],
     positions: &mut [i32],
-) -> Verdict
+) -> Result<(), Refusal>
     requires { Lines text.now count faces points corners (lent valences.old rings.old) positions.old }
     ensures value { result ≡ faces_verdict text.now }
     ensures valences_after { valences.new
@@ -50,15 +50,15 @@ fn read_lines(
     );
     let open = faults.opens;
     if open < count {
-        return Verdict::Refused(Refusal::OpenRing(open));
+        return Err(Refusal::OpenRing(open));
     }
     let unfit = faults.unfit;
     if unfit < count {
-        return Verdict::Refused(Refusal::RingImproper(unfit));
+        return Err(Refusal::RingImproper(unfit));
     }
     let far = first_far(text, points, count);
     if far < count {
-        return Verdict::Refused(Refusal::ControlCoordinate(far));
+        return Err(Refusal::ControlCoordinate(far));
     }
     fill_rings(
         text,
@@ -72,7 +72,7 @@ fn read_lines(
         rings,
     );
     fill_points(text, points, positions, count);
-    Verdict::Accepted
+    Ok(())
 }
 
 // Reads a face list: reasons 20, 2, 1, 21, 4 and 7, and V. A refused text leaves the tables as they were.
@@ -81,32 +81,26 @@ pub fn read_off(
     valences: &mut [u16],
     rings: &mut [Vertex],
     positions: &mut [i32],
-) -> Amount
+) -> Result<usize, Refusal>
     ensures value { result ≡ read_off_answer text.now (lent valences.old rings.old) positions.old }
     ensures valences_after { valences.new ≡ read_off_valences text.now (lent valences.old rings.old) positions.old }
     ensures rings_after { rings.new ≡ read_off_rings text.now (lent valences.old rings.old) positions.old }
     ensures positions_after { positions.new ≡ read_off_positions text.now (lent valences.old rings.old) positions.old }
 {
-    match judge_text(text) {
-        Text::Refused(r) => Amount::Refused(r),
-        Text::Whole {
-            count,
-            faces,
-            points,
-            corners,
-        } => {
-            if is_bad_count(count) {
-                return Amount::Refused(Refusal::VertexCount);
-            }
-            if is_short(valences, rings, positions, count) {
-                return Amount::Refused(Refusal::TableTooShort);
-            }
-            match read_lines(
-                text, count, faces, points, corners, valences, rings, positions,
-            ) {
-                Verdict::Refused(r) => Amount::Refused(r),
-                Verdict::Accepted => Amount::Of(count),
-            }
-        }
+    let Text {
+        count,
+        faces,
+        points,
+        corners,
+    } = judge_text(text)?;
+    if is_bad_count(count) {
+        return Err(Refusal::VertexCount);
     }
+    if is_short(valences, rings, positions, count) {
+        return Err(Refusal::TableTooShort);
+    }
+    read_lines(
+        text, count, faces, points, corners, valences, rings, positions,
+    )?;
+    Ok(count)
 }

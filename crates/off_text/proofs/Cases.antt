@@ -12,8 +12,6 @@ use Rattle.units.specs.Coordinate.{beyond}
 use Rattle.rings.specs.Table.{lent, gather}
 use Rattle.rings.specs.Verdict.{refuse_if, refuse_at, and_then}
 use Rattle.rings.specs.Check.{bad_count, short_rings, short_tables}
-use Rattle.rings.specs.declared.Verdict.{Verdict}
-use Rattle.rings.specs.declared.Verdict.TheVariants.{Accepted, Refused}
 use Rattle.rings.specs.declared.Refusal.TheVariants.{TableTooShort, VertexCount, BadText, OpenRing, RingImproper, ControlCoordinate}
 use Rattle.numerals.specs.Numerals.{digits, number, signed}
 use Rattle.off_numbers.specs.Text.{byte_at, digit_at, run_at, value_of, value_at, after_at, padded, is_number, minus_at, is_unit, unit_at, after_unit}
@@ -24,6 +22,8 @@ use Rattle.off_text.specs.Layout.{is_word, text_count, text_faces, text_edges, i
 use Rattle.off_text.specs.Layout.{text_point, corners_at, is_corners, is_face, after_face, face_line_at, text_face, text_verdict}
 use Rattle.off_text.specs.ReadOff.{text_ring, text_beyond, faces_verdict, read_off_verdict}
 use Rattle.off_text.specs.WriteOff.{word, counts_line, vertex_line, face_line, face_lines}
+use Rattle.rings.specs.Refusal.{Verdict}
+use Rattle.std.specs.Prelude.{Ok, Err}
 
 -- ---- document 01's tetrahedron and octahedron
 
@@ -130,7 +130,7 @@ pub first_lines :
     ∷ with_counts (52 ∷ 32 ∷ 32 ∷ 52 ∷ 32 ∷ 54 ∷ 10 ∷ [])
     ∷ text 4 4 7 tetrahedron_faces
     ∷ [])
-    ≡ Refused (BadText 1) ∷ Refused (BadText 1) ∷ Refused (BadText 2) ∷ Refused (BadText 2) ∷ Refused (BadText 2) ∷ []
+    ≡ Err (BadText 1) ∷ Err (BadText 1) ∷ Err (BadText 2) ∷ Err (BadText 2) ∷ Err (BadText 2) ∷ []
 unfolding first_from first some refuse_if refuse_at and_then bad_count short_rings short_tables beyond byte_at digit_at run_at value_of value_at after_at padded
     is_number minus_at is_unit unit_at after_unit bad_face corner before behind has_pair steps trail pairs faces_at after least face_ring back_in closed doubled
     twisted unfit_faces is_word text_count text_faces text_edges is_counts is_vertex after_vertex vertex_at axis_at text_point corners_at is_corners is_face
@@ -144,7 +144,7 @@ pub vertex_lines_lem :
     ∷ with_point (49 ∷ 32 ∷ 45 ∷ 48 ∷ 32 ∷ 48 ∷ 10 ∷ [])
     ∷ with_point (number 2147483648 32 ++ (48 ∷ 32 ∷ 48 ∷ 10 ∷ []))
     ∷ [])
-    ≡ Refused (BadText 3) ∷ Refused (BadText 3) ∷ Refused (BadText 3) ∷ []
+    ≡ Err (BadText 3) ∷ Err (BadText 3) ∷ Err (BadText 3) ∷ []
 unfolding first_from first some refuse_if refuse_at and_then bad_count short_rings short_tables beyond byte_at digit_at run_at value_of value_at after_at padded
     is_number minus_at is_unit unit_at after_unit bad_face corner before behind has_pair steps trail pairs faces_at after least face_ring back_in closed doubled
     twisted unfit_faces is_word text_count text_faces text_edges is_counts is_vertex after_vertex vertex_at axis_at text_point corners_at is_corners is_face
@@ -160,7 +160,7 @@ pub face_lines_lem :
     ∷ with_faces (face_lines (face 0 1 3 ∷ face 0 2 1 ∷ face 0 3 2 ∷ []) ++ (51 ∷ 32 ∷ 49 ∷ 32 ∷ 50 ∷ 32 ∷ 51 ∷ []))
     ∷ with_faces (face_lines tetrahedron_faces ++ (10 ∷ []))
     ∷ [])
-    ≡ Refused (BadText 8) ∷ Refused (BadText 9) ∷ Refused (BadText 10) ∷ Refused (BadText 10) ∷ Refused (BadText 11) ∷ []
+    ≡ Err (BadText 8) ∷ Err (BadText 9) ∷ Err (BadText 10) ∷ Err (BadText 10) ∷ Err (BadText 11) ∷ []
 unfolding first_from first some refuse_if refuse_at and_then bad_count short_rings short_tables beyond byte_at digit_at run_at value_of value_at after_at padded
     is_number minus_at is_unit unit_at after_unit bad_face corner before behind has_pair steps trail pairs faces_at after least face_ring back_in closed doubled
     twisted unfit_faces is_word text_count text_faces text_edges is_counts is_vertex after_vertex vertex_at axis_at text_point corners_at is_corners is_face
@@ -175,7 +175,7 @@ pub whole_texts :
     ∷ text 9 0 0 []
     ∷ with_point (number 2147483647 32 ++ (48 ∷ 32 ∷ 48 ∷ 10 ∷ []))
     ∷ [])
-    ≡ Accepted ∷ Refused VertexCount ∷ Refused TableTooShort ∷ Refused (ControlCoordinate 0) ∷ []
+    ≡ (Ok tt) ∷ Err VertexCount ∷ Err TableTooShort ∷ Err (ControlCoordinate 0) ∷ []
 unfolding first_from first some refuse_if refuse_at and_then bad_count short_rings short_tables beyond byte_at digit_at run_at value_of value_at after_at padded
     is_number minus_at is_unit unit_at after_unit bad_face corner before behind has_pair steps trail pairs faces_at after least face_ring back_in closed doubled
     twisted unfit_faces is_word text_count text_faces text_edges is_counts is_vertex after_vertex vertex_at axis_at text_point corners_at is_corners is_face
@@ -192,7 +192,7 @@ pub vertices :
     ∷ text 4 2 3 (face 0 1 2 ∷ face 0 2 1 ∷ [])
     ∷ text 8 6 9 (face 4 5 7 ∷ face 4 6 5 ∷ face 4 7 6 ∷ face 5 6 7 ∷ face 0 1 4 ∷ face 0 4 1 ∷ [])
     ∷ [])
-    ≡ Refused (OpenRing 0) ∷ Refused (OpenRing 0) ∷ Refused (RingImproper 0) ∷ Refused (RingImproper 0) ∷ Refused (OpenRing 4) ∷ []
+    ≡ Err (OpenRing 0) ∷ Err (OpenRing 0) ∷ Err (RingImproper 0) ∷ Err (RingImproper 0) ∷ Err (OpenRing 4) ∷ []
 unfolding first_from first some refuse_if refuse_at and_then bad_count short_rings short_tables beyond byte_at digit_at run_at value_of value_at after_at padded
     is_number minus_at is_unit unit_at after_unit bad_face corner before behind has_pair steps trail pairs faces_at after least face_ring back_in closed doubled
     twisted unfit_faces is_word text_count text_faces text_edges is_counts is_vertex after_vertex vertex_at axis_at text_point corners_at is_corners is_face

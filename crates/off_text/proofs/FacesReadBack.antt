@@ -24,9 +24,6 @@ use Rattle.rings.specs.Table.{Lent, lent, ring_of, rows, coordinate_at}
 use Rattle.rings.specs.Verdict.{and_then, with_amount}
 use Rattle.rings.specs.Check.{bad_count, short_tables, check_verdict}
 use Rattle.rings.specs.Accepts.{Accepts}
-use Rattle.rings.specs.declared.Verdict.{Verdict}
-use Rattle.rings.specs.declared.Verdict.TheVariants.{Accepted}
-use Rattle.rings.specs.declared.Amount.TheVariants.{Of}
 use Rattle.rings.proofs.Rows.{rows_ring}
 use Rattle.rings.proofs.Verdicts.{then_accepted, if_clear, at_clear}
 use Rattle.rings.proofs.Accepted.{accepted_only}
@@ -37,8 +34,10 @@ use Rattle.off_text.specs.WriteOff.{text, write_off_verdict}
 use Rattle.off_text.proofs.NumbersRead.{Held}
 use Rattle.off_text.proofs.WrittenTextReadsBack.{Writable, V_back, points_back, text_accepted, faces_taken, entries_back, rings_back}
 use Rattle.off_text.proofs.ReadingIsChecked.{ring_read_lem, point_read}
+use Rattle.rings.specs.Refusal.{Verdict}
+use Rattle.std.specs.Prelude.{Ok}
 
-then_both : (a b : Verdict) → a ≡ Accepted → b ≡ Accepted → and_then a b ≡ Accepted
+then_both : (a b : Verdict) → a ≡ (Ok tt) → b ≡ (Ok tt) → and_then a b ≡ (Ok tt)
 unfolding and_then
 then_both a b p q = rw p q
 
@@ -68,8 +67,8 @@ module _ (n : ℕ) (t : Lent) (ps : List ℤ) (A : Accepts n t ps) where
     held = λ v l axis a. in_held (coordinate_at ps axis v) (A.near v l axis a);
   }
 
-module _ (n : ℕ) (t : Lent) (ps : List ℤ) (room : List ℕ) (h : write_off_verdict n t ps room ≡ Accepted) where
-  checked : check_verdict n t ps ≡ Accepted
+module _ (n : ℕ) (t : Lent) (ps : List ℤ) (room : List ℕ) (h : write_off_verdict n t ps room ≡ (Ok tt)) where
+  checked : check_verdict n t ps ≡ (Ok tt)
   unfolding write_off_verdict
   checked = (then_accepted (check_verdict n t ps) _ h).0
 
@@ -90,7 +89,7 @@ module _ (n : ℕ) (t : Lent) (ps : List ℤ) (room : List ℕ) (h : write_off_v
         λ axis a. le-ltb _ _ (subst (λ z. nat_abs z ≤ most_units) (sym (points_back (rows n t) (coordinate_at ps) W v l axis a)) (A.near v l axis a)) in
         or_both _ _ (b 0 (omega arith)) (or_both _ _ (b 1 (omega arith)) (b 2 (omega arith)))
 
-    pub read_accepted : read_off_verdict (text n t ps room) t' ps' ≡ Accepted
+    pub read_accepted : read_off_verdict (text n t ps room) t' ps' ≡ (Ok tt)
     unfolding faces_verdict read_off_verdict bad_count
     read_accepted =
         let y : List ℕ = text n t ps room in
@@ -104,9 +103,9 @@ module _ (n : ℕ) (t : Lent) (ps : List ℤ) (room : List ℕ) (h : write_off_v
         ∙ at_clear _ (text_count y) _ _ k.fits
         ∙ at_clear _ (text_count y) _ _ (λ v l. near v (subst (λ m. v < m) count_back l)))
 
-    pub read_answers_V : read_off_answer (text n t ps room) t' ps' ≡ Of n
+    pub read_answers_V : read_off_answer (text n t ps room) t' ps' ≡ Ok n
     unfolding read_off_answer with_amount
-    read_answers_V = rw read_accepted (ap Of count_back)
+    read_answers_V = rw read_accepted (ap Ok count_back)
 
     -- the points
     pub points_as_written : (v : ℕ) → v < n → (axis : ℕ) → axis < 3

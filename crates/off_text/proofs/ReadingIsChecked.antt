@@ -20,7 +20,6 @@ use Rattle.rings.specs.Table.{Lent, lent, gather, put, ring_of, rows, padded, va
 use Rattle.rings.specs.Verdict.{after}
 use Rattle.rings.specs.Check.{bad_count, short_tables, check_verdict}
 use Rattle.rings.specs.Accepts.{Room}
-use Rattle.rings.specs.declared.Verdict.TheVariants.{Accepted}
 use Rattle.rings.proofs.Tables.{length_put, length_gather, length_padded}
 use Rattle.rings.proofs.Verdicts.{if_accepted, at_accepted, then_accepted}
 use Rattle.rings.proofs.Checks.{good_count, long_tables}
@@ -33,13 +32,14 @@ use Rattle.off_rings.proofs.AcceptedFacesAreSound.{Taken, taken_sound, begins_wi
 use Rattle.off_text.specs.Layout.{is_word, is_counts, is_vertex, vertex_at, is_corners, is_face, face_line_at, corners_at}
 use Rattle.off_text.specs.Layout.{text_count, text_faces, text_face, text_point, text_verdict}
 use Rattle.off_text.specs.ReadOff.{text_ring, text_beyond, faces_verdict, read_off_verdict, read_off_valences, read_off_rings, read_off_positions}
+use Rattle.std.specs.Prelude.{Ok}
 
 face_good : (s : List ℕ) (at : ℕ) → is_face s at ≡ true → bad_face (text_count s) (corners_at s at) ≡ false
 unfolding is_face
 face_good s at e = not-true _ (and_true (is_corners s at) (not (bad_face (text_count s) (corners_at s at))) e).1
 
 -- a text in the subset has no bad face
-good_faces : (s : List ℕ) → text_verdict s ≡ Accepted → (i : ℕ) → i < text_faces s → bad_face (text_count s) (text_face s i) ≡ false
+good_faces : (s : List ℕ) → text_verdict s ≡ (Ok tt) → (i : ℕ) → i < text_faces s → bad_face (text_count s) (text_face s i) ≡ false
 unfolding text_verdict text_face
 good_faces s h i l =
     let a = if_accepted (not (is_word s)) _ _ h in
@@ -51,14 +51,14 @@ good_faces s h i l =
 module _ (s : List ℕ) (t : Lent) (ps : List ℤ) where
   -- the stages of an accepted reading
   record Passed : Type 0 where
-    pub text : text_verdict s ≡ Accepted
+    pub text : text_verdict s ≡ (Ok tt)
     pub counted : bad_count (text_count s) ≡ false
     pub long : short_tables (text_count s) t ps ≡ false
     pub closed : Clear (twisted (text_count s) (text_faces s) (text_face s)) (text_count s)
     pub fit : Clear (unfit_faces (text_count s) (text_faces s) (text_face s)) (text_count s)
     pub near : Clear (text_beyond s) (text_count s)
 
-  passed : read_off_verdict s t ps ≡ Accepted → Passed
+  passed : read_off_verdict s t ps ≡ (Ok tt) → Passed
   unfolding faces_verdict read_off_verdict
   passed h =
       let z = then_accepted (text_verdict s) _ h in
@@ -69,7 +69,7 @@ module _ (s : List ℕ) (t : Lent) (ps : List ℤ) where
       let e = at_accepted (text_beyond s) (text_count s) _ _ d.1 in
       record { text = z.0; counted = a.0; long = b.0; closed = c.0; fit = d.0; near = e.0 }
 
-  module _ (h : read_off_verdict s t ps ≡ Accepted) where
+  module _ (h : read_off_verdict s t ps ≡ (Ok tt)) where
     taken : Taken (text_count s) (text_faces s) (text_face s)
     taken = let p = passed h in record { fine = good_faces s p.text; closes = p.closed.below; fits = p.fit.below }
 
@@ -143,7 +143,7 @@ module _ (s : List ℕ) (t : Lent) (ps : List ℤ) where
         record { valences = omega (arith, ap length new_valences, ev, z.0.valences); rings = omega (arith, ap length new_rings, er, z.0.rings) } in
         (room, omega (arith, ap length new_positions, ep, z.1))
 
-    pub reading_is_checked : check_verdict (text_count s) (lent (read_off_valences s t ps) (read_off_rings s t ps)) (read_off_positions s t ps) ≡ Accepted
+    pub reading_is_checked : check_verdict (text_count s) (lent (read_off_valences s t ps) (read_off_rings s t ps)) (read_off_positions s t ps) ≡ (Ok tt)
     reading_is_checked =
         let p = passed h in
         accepted_all (text_count s) (lent (read_off_valences s t ps) (read_off_rings s t ps)) (read_off_positions s t ps) (record {

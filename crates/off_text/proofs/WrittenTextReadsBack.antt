@@ -15,7 +15,6 @@ use Rattle.mesh.proofs.Faces.{three_faces}
 use Rattle.mesh.proofs.First.{none_some}
 use Rattle.rings.specs.Table.{gather}
 use Rattle.rings.specs.Verdict.{refuse_if, refuse_at}
-use Rattle.rings.specs.declared.Verdict.TheVariants.{Accepted}
 use Rattle.off_rings.specs.Faces.{Face, bad_face, face_ring}
 use Rattle.off_rings.specs.Listed.{listed}
 use Rattle.off_rings.proofs.ListedPairs.{listed_count}
@@ -28,6 +27,7 @@ use Rattle.off_text.proofs.Standing.{Stands, stands_whole, stands_front, stands_
 use Rattle.off_text.proofs.NumbersRead.{Held}
 use Rattle.off_text.proofs.LinesRead.{word_read, count_is, faces_is, counts_read, vertices_begin, VertexRead, vertex_read, FaceRead, face_read}
 use Rattle.off_text.proofs.LinesRead.{lines_place, lines_stand, lines_gather}
+use Rattle.std.specs.Prelude.{Ok}
 
 -- a sound mesh with points, all of whose numbers have 32 bits
 pub record Writable (M : Mesh) (point : ℕ → ℕ → ℤ) : Type 0 where
@@ -160,7 +160,7 @@ module _ (M : Mesh) (point : ℕ → ℕ → ℤ) (W : Writable M point) where
 
   -- ---- the text is in the subset
 
-  pub text_accepted : text_verdict s ≡ Accepted
+  pub text_accepted : text_verdict s ≡ (Ok tt)
   unfolding text_verdict refuse_if refuse_at
   text_accepted =
       let w : is_word s ≡ true = word_read s (stands_front s 0 word (counts ++ (gather vertex M.count ++ face_lines (listed M))) all) in

@@ -2,14 +2,13 @@
 -- The text of a face list (document 02, order 4): the word OFF; V, F and E; a line for each vertex; a line for each face, 3 a b c;
 -- each ended by a newline, with single blanks, and nothing more. Reason 20 stands at the first line that is not as expected, counted from 1.
 -- Assumes nothing.
-use Rattle.std.specs.Prelude.{Bool, not, ◌&&◌, List, ℕ, zero, suc, ◌+◌, ◌*◌, ltb, eqb, ℤ, length}
+use Rattle.std.specs.Prelude.{Bool, not, ◌&&◌, List, ℕ, zero, suc, ◌+◌, ◌*◌, ltb, eqb, ℤ, length, Ok}
 use Rattle.rings.specs.Verdict.{refuse_if, refuse_at}
 use Rattle.rings.specs.declared.Refusal.TheVariants.{BadText}
-use Rattle.rings.specs.declared.Verdict.{Verdict}
-use Rattle.rings.specs.declared.Verdict.TheVariants.{Accepted}
 use Rattle.numerals.specs.Numerals.{blank, newline}
 use Rattle.off_numbers.specs.Text.{numbers32, byte_at, value_at, after_at, is_number, is_unit, unit_at, after_unit}
 use Rattle.off_rings.specs.Faces.{Face, bad_face}
+use Rattle.rings.specs.Refusal.{Verdict}
 
 -- where the second line begins
 abbrev pub counts_at : ℕ
@@ -97,4 +96,4 @@ module _ (s : List ℕ) where
       (refuse_at (λ v. not (is_vertex (vertex_at v))) text_count (λ v. BadText (3 + v))
       (refuse_at (λ i. not (is_face (face_line_at i))) text_faces (λ i. BadText (3 + text_count + i))
       (refuse_if (ltb (face_line_at text_faces) (length s)) (BadText (3 + text_count + text_faces))
-      Accepted))))
+      (Ok tt)))))

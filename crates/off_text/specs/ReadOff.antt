@@ -2,17 +2,15 @@
 -- Reading a face list: 20, then 2 and 1, then 21, 4 and 7, each over all vertices before the next, and V where it is accepted;
 -- the tables get the rings of the faces and the points.
 -- Assumes nothing.
-use Rattle.std.specs.Prelude.{Bool, ◌||◌, List, ℕ, ℤ}
+use Rattle.std.specs.Prelude.{Bool, ◌||◌, List, ℕ, ℤ, Ok}
 use Rattle.units.specs.Coordinate.{beyond}
 use Rattle.rings.specs.Table.{Lent, put, valence_rows, ring_rows, point_rows}
 use Rattle.rings.specs.Verdict.{refuse_if, refuse_at, and_then, after, with_amount}
 use Rattle.rings.specs.Check.{bad_count, short_tables}
 use Rattle.rings.specs.declared.Refusal.TheVariants.{TableTooShort, VertexCount, OpenRing, RingImproper, ControlCoordinate}
-use Rattle.rings.specs.declared.Verdict.{Verdict}
-use Rattle.rings.specs.declared.Verdict.TheVariants.{Accepted}
-use Rattle.rings.specs.declared.Amount.{Amount}
 use Rattle.off_rings.specs.Faces.{twisted, unfit_faces, face_ring}
 use Rattle.off_text.specs.Layout.{text_count, text_faces, text_face, text_point, text_verdict}
+use Rattle.rings.specs.Refusal.{Amount, Verdict}
 
 module _ (s : List ℕ) where
   -- the ring of v
@@ -29,7 +27,7 @@ module _ (s : List ℕ) where
       refuse_at (twisted (text_count s) (text_faces s) (text_face s)) (text_count s) OpenRing
       (refuse_at (unfit_faces (text_count s) (text_faces s) (text_face s)) (text_count s) RingImproper
       (refuse_at text_beyond (text_count s) ControlCoordinate
-      Accepted))
+      (Ok tt)))
 
 module _ (s : List ℕ) (t : Lent) (ps : List ℤ) where
   -- 20, 2, 1, then those of the faces and the points

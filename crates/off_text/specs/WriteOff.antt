@@ -1,18 +1,16 @@
 -- To be believed.
 -- Writing a face list: the check, then 10, and the number of bytes where it is accepted.
 -- Assumes nothing.
-use Rattle.std.specs.Prelude.{List, [], ◌∷◌, ◌++◌, ℕ, ltb, ℤ, length}
+use Rattle.std.specs.Prelude.{List, [], ◌∷◌, ◌++◌, ℕ, ltb, ℤ, length, Ok}
 use Rattle.mesh.specs.Mesh.{Mesh, edges, faces}
 use Rattle.rings.specs.Table.{Lent, gather, put, rows, coordinate_at}
 use Rattle.rings.specs.Verdict.{refuse_if, and_then, after, with_amount}
 use Rattle.rings.specs.Check.{check_verdict}
 use Rattle.rings.specs.declared.Refusal.TheVariants.{NoRoom}
-use Rattle.rings.specs.declared.Verdict.{Verdict}
-use Rattle.rings.specs.declared.Verdict.TheVariants.{Accepted}
-use Rattle.rings.specs.declared.Amount.{Amount}
 use Rattle.numerals.specs.Numerals.{blank, newline, number, signed}
 use Rattle.off_rings.specs.Faces.{Face}
 use Rattle.off_rings.specs.Listed.{listed}
+use Rattle.rings.specs.Refusal.{Amount, Verdict}
 
 -- OFF and a newline
 abbrev pub word : List ℕ
@@ -49,7 +47,7 @@ module _ (n : ℕ) (t : Lent) (ps : List ℤ) (room : List ℕ) where
 
   -- the check, then 10
   unfoldable pub write_off_verdict : Verdict
-  write_off_verdict = and_then (check_verdict n t ps) (refuse_if (ltb (length room) (length text)) NoRoom Accepted)
+  write_off_verdict = and_then (check_verdict n t ps) (refuse_if (ltb (length room) (length text)) NoRoom (Ok tt))
 
   -- the number of bytes
   unfoldable pub write_off_answer : Amount

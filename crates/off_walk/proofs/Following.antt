@@ -1,18 +1,20 @@
 -- From searches in the two lists to the definitions. Assumes nothing.
 use mathlib.Core.Path.{◌≡◌, refl, sym, ap, ◌∙◌, subst}
 use mathlib.Core.Bool.{true, false}
-use mathlib.Core.List.{List}
+use mathlib.Core.List.{List, [], ◌∷◌}
 use mathlib.Core.Logic.{◌⊎◌, inl, inr, ⊎_elim, ◌≢◌}
-use Prim.Native.Nat.{ℕ, suc, ◌+◌, ◌≤◌, ◌<◌}
+use Prim.Native.Nat.{ℕ, suc, min, ◌+◌, ◌≤◌, ◌<◌}
 use native.Mathlib.Nat.{eq-or-lt_of_le}
 use native.Mathlib.Numerals.{add-one}
 use native.Mathlib.Omega.{arith}
 use lib.Dec.{eqb}
 use lib.ListN.{length, get_or}
 use borrow.Author.Tests.{eq-eqb, ne_eqb}
+use Rattle.std.specs.List.{fold}
 use Rattle.mesh.specs.Search.{first}
 use Rattle.mesh.specs.Ring.{◌∈◌, has, place}
-use Rattle.mesh.proofs.Rings.{place_lt, get_or_place, get_or_in}
+use Rattle.mesh.proofs.Lists.{eq_split, lt_split, here, there}
+use Rattle.mesh.proofs.Rings.{place_lt, in_cons}
 use Rattle.mesh.proofs.Places.{in_has, has_in, in_place}
 use Rattle.mesh.proofs.First.{Clear, clear_none, clear_more, first_is, first_end, by_cases}
 use Rattle.off_rings.specs.Faces.{steps}
@@ -28,55 +30,39 @@ module _ (n : ℕ) (from to : List ℕ) (x i : ℕ) (e : i ≡ place x from) whe
   unfolding follower
   follows_none h = rw (by_cases (has x from) (λ q. absurd (omega (arith, place_lt x from (has_in x from q), e))))
 
--- ---- the smallest entry of the first i: none of them is smaller, and it is one of them or n
+-- ---- the least of n and the entries
 
-pub record Best (n : ℕ) (l : List ℕ) (i best : ℕ) : Type 0 where
+-- it is one of them, and none of them is smaller
+record Least (n : ℕ) (l : List ℕ) (best : ℕ) : Type 0 where
   pub most : best ≤ n
-  pub least : (k : ℕ) → k < i → best ≤ get_or l k 0
+  pub least : (x : ℕ) → x ∈ l → best ≤ x
   pub found : (best ≡ n) ⊎ (best ∈ l)
 
-pub best_none : (n : ℕ) (l : List ℕ) → Best n l 0 n
-best_none n l = record { most = omega arith; least = λ k h. absurd (omega arith); found = inl refl }
+least_of : (n : ℕ) (l : List ℕ) → Least n l (fold min n l)
+least_of n [] = record { most = omega arith; least = λ x m. absurd (omega arith); found = inl refl }
+least_of n (a ∷ l) =
+    let k = least_of (min n a) l in
+    record {
+      most = omega (arith, k.most);
+      least = λ x m. ⊎_elim (λ e. omega (arith, k.most, e.1)) (λ e. k.least x (in_cons x a l m e.1)) (eq_split x a);
+      found = ⊎_elim
+          (λ e. ⊎_elim (λ h. inl (omega (arith, e, h))) (λ h. inr (subst (λ x. x ∈ a ∷ l) (omega (arith, e, h)) (here a l))) (lt_split n a))
+          (λ m. inr (there _ a l m))
+          k.found;
+    }
 
-module _ {n : ℕ} {l : List ℕ} {i best : ℕ} (b : Best n l i best) (h : i < length l) where
-  last : (k : ℕ) → k < i + 1 → (k ≡ i) ⊎ (k < i)
-  last k g = eq-or-lt_of_le (omega arith)
-
-  best_new : get_or l i 0 < best → Best n l (i + 1) (get_or l i 0)
-  best_new g = record {
-    most = omega (arith, b.most);
-    least = λ k q. ⊎_elim (λ e. subst (λ j. get_or l i 0 ≤ get_or l j 0) (sym e) (omega arith)) (λ e. omega (arith, b.least k e)) (last k q);
-    found = inr (get_or_in l i 0 h);
-  }
-
-  best_same : best ≤ get_or l i 0 → Best n l (i + 1) best
-  best_same g = record {
-    most = b.most;
-    least = λ k q. ⊎_elim (λ e. subst (λ j. best ≤ get_or l j 0) (sym e) g) (λ e. b.least k e) (last k q);
-    found = b.found;
-  }
-
-pub best_took : {n : ℕ} {l : List ℕ} {i best best' : ℕ} → Best n l i best → i < length l → get_or l i 0 < best → best' ≡ get_or l i 0 → Best n l (i + 1) best'
-best_took {n} {l} {i} b h g e = subst (Best n l (i + 1)) (sym e) (best_new b h g)
-
-pub best_left : {n : ℕ} {l : List ℕ} {i best best' : ℕ} → Best n l i best → i < length l → best ≤ get_or l i 0 → best' ≡ best → Best n l (i + 1) best'
-best_left {n} {l} {i} b h g e = subst (Best n l (i + 1)) (sym e) (best_same b h g)
-
-pub best_end : {n : ℕ} {l : List ℕ} {i best : ℕ} (to : List ℕ) → Best n l i best → length l ≤ i → best ≡ smallest n l to
+pub least_is : (n : ℕ) (l to : List ℕ) → fold min n l ≡ smallest n l to
 unfolding smallest
-best_end {n} {l} {i} {best} to b h = ⊎_elim none some' b.found
+least_is n l to = ⊎_elim none (λ m. ⊎_elim none (λ h. first_is clear h (in_has (fold min n l) l m)) (eq-or-lt_of_le k.most)) k.found
   where
-    clear : Clear (λ x. has x l) best
-    clear = record { below = λ k g. by_cases (has k l) (λ q. absurd (no k g (has_in k l q))) }
-      where
-        no : (k : ℕ) → k < best → k ∈ l → ⊥
-        no k g m = omega (arith, b.least (place k l) (omega (arith, place_lt k l m)), get_or_place k l 0 m)
+    k : Least n l (fold min n l)
+    k = least_of n l
 
-    none : best ≡ n → best ≡ first (λ x. has x l) n
-    none e = first_end clear b.most (omega arith)
+    clear : Clear (λ x. has x l) (fold min n l)
+    clear = record { below = λ x h. by_cases (has x l) (λ q. let h' = k.least x (has_in x l q) in omega arith) }
 
-    some' : best ∈ l → best ≡ first (λ x. has x l) n
-    some' m = ⊎_elim none (λ g. first_is clear g (in_has best l m)) (eq-or-lt_of_le b.most)
+    none : fold min n l ≡ n → fold min n l ≡ first (λ x. has x l) n
+    none e = first_end clear k.most (omega arith)
 
 -- ---- the walk
 
@@ -98,21 +84,29 @@ module _ (n : ℕ) (from to : List ℕ) where
       let e : x ≡ steps (follower n from to) (smallest n from to) (suc k) = w.here ∙ ap (λ y. steps (follower n from to) y (suc k)) w.begins in
       ((λ q. eq-eqb _ _ (sym e ∙ q ∙ w.begins)), (λ d. ne_eqb _ _ (λ q. d (e ∙ q ∙ sym w.begins))))
 
-  pub walk_more : (start x y k : ℕ) → Walked start x k → x ≢ start → y ≡ follower n from to x → Walked start y (k + 1)
-  walk_more start x y k w d e = record {
+  pub walk_more : {start x y k m : ℕ} → Walked start x k → x ≢ start → y ≡ follower n from to x → m ≡ k + 1 → Walked start y m
+  walk_more {start} {x} {y} {k} w d e q = rw q record {
     begins = w.begins;
     here = rw (add-one k) (e ∙ ap (follower n from to) w.here ∙ sym (steps_suc (follower n from to) start (suc k)));
     clear = clear_more w.clear ((at_back start x k w).1 d);
   }
 
-  pub closes_empty : (m : ℕ) → m ≡ length from → m ≡ 0 → true ≡ fan_closes n from to
+  pub closes_empty : length from ≡ 0 → true ≡ fan_closes n from to
   unfolding fan_closes
-  closes_empty m e z = rw (← e, eq-eqb m 0 z)
+  closes_empty z = rw (eq-eqb (length from) 0 z)
 
-  pub closes_back : (m start x k : ℕ) → m ≡ length from → (m ≡ 0 → ⊥) → Walked start x k → k < m → x ≡ start → eqb (k + 1) m ≡ fan_closes n from to
+  -- back before all faces are passed
+  pub closes_early : {start x k : ℕ} → Walked start x k → k + 1 < length from → x ≡ start → false ≡ fan_closes n from to
   unfolding fan_closes
-  closes_back m start x k e z w h q = rw (← e, ne_eqb m 0 z, ← first_is w.clear h ((at_back start x k w).0 q), add-one k)
+  closes_early {start} {x} {k} w h q =
+      rw (ne_eqb (length from) 0 (omega arith), ← first_is {n = length from} w.clear (omega arith) ((at_back start x k w).0 q), ne_eqb (suc k) (length from) (omega arith))
 
-  pub closes_never : (m start x k : ℕ) → m ≡ length from → (m ≡ 0 → ⊥) → Walked start x k → k ≤ m → m ≤ k → false ≡ fan_closes n from to
+  -- only the last face is left
+  pub closes_last : {start x k : ℕ} → Walked start x k → length from ≡ k + 1 → eqb x start ≡ fan_closes n from to
   unfolding fan_closes
-  closes_never m start x k e z w a b = rw (← e, ne_eqb m 0 z, ← first_end w.clear a b, ne_eqb (suc k) m (omega arith))
+  closes_last {start} {x} {k} w e =
+      ⊎_elim
+      (λ q. rw (q.0, ne_eqb (length from) 0 (omega arith), ← first_is {n = length from} w.clear (omega arith) ((at_back start x k w).0 q.1), eq-eqb (suc k) (length from) (omega arith)))
+      (λ q.
+      rw (q.0, ne_eqb (length from) 0 (omega arith), ← first_end {n = length from} (clear_more w.clear ((at_back start x k w).1 q.1)) (omega arith) (omega arith), ne_eqb (suc (k + 1)) (length from) (omega arith)))
+      (eq_split x start)

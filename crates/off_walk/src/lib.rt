@@ -14,9 +14,10 @@ pub fn follow(from: &[Vertex], to: &[Vertex], count: usize, x: usize) -> usize
 {
     let i = seek(from, x);
     if i < from.len() {
-        return to[i] as usize;
+        to[i] as usize
+    } else {
+        count
     }
-    count
 }
 
 // The smallest entry, or the number of vertices where there is none.
@@ -24,13 +25,11 @@ pub fn smallest_of(from: &[Vertex], to: &[Vertex], count: usize) -> usize
     ensures { result ≡ smallest count from.now to.now }
 {
     let mut best = count;
-    let mut i = 0;
-    while i < from.len() {
-        let x = from[i] as usize;
+    for u in from {
+        let x = *u as usize;
         if x < best {
             best = x;
         }
-        i += 1;
     }
     best
 }
@@ -46,13 +45,11 @@ pub fn closes(from: &[Vertex], to: &[Vertex], count: usize) -> bool
     }
     let start = smallest_of(from, to, count);
     let mut x = follow(from, to, count, start);
-    let mut k = 0;
-    while k < n {
+    for _k in 1..n {
         if x == start {
-            return k + 1 == n;
+            return false;
         }
         x = follow(from, to, count, x);
-        k += 1;
     }
-    false
+    x == start
 }

@@ -13,11 +13,8 @@ use Rattle.rings.specs.Check.{check_verdict, check_answer}
 use Rattle.rings.specs.Accepts.{Accepts}
 use Rattle.rings.specs.declared.Refusal.{Refusal}
 use Rattle.rings.specs.declared.Refusal.TheVariants.{NoRoom}
-use Rattle.rings.specs.declared.Verdict.{Verdict}
-use Rattle.rings.specs.declared.Verdict.TheVariants.{Accepted, Refused}
-use Rattle.rings.specs.declared.Counted.TheVariants as counted
-use Rattle.rings.specs.declared.Amount.TheVariants as amount
 use Rattle.rings.proofs.Accepted.{accepted_only}
+use Rattle.rings.proofs.Verdicts.{same_counts}
 use Rattle.file_format.specs.Blocks.{Put}
 use Rattle.file_format.proofs.Blocks.{then, put_is}
 use Rattle.off_rings.specs.Listed.{listed}
@@ -27,6 +24,8 @@ use Rattle.off_length.specs.Length.{text_length}
 use Rattle.off_length.proofs.TextLength.{text_length_lem}
 use Rattle.off_lines.specs.Written.{Written, line_of}
 use Rattle.off_lines.proofs.Writing.{written_then}
+use Rattle.rings.specs.Refusal.{Verdict, counted}
+use Rattle.std.specs.Prelude.{Ok, Err}
 
 module _ (n : ℕ) (t : Lent) (ps : List ℤ) where
   -- the lines of the vertices, and those of the faces
@@ -60,7 +59,7 @@ module _ (n : ℕ) (t : Lent) (ps : List ℤ) where
 
 -- the check accepted the tables, with these edges and faces
 pub record Checked (n : ℕ) (t : Lent) (ps : List ℤ) (e f : ℕ) : Type 0 where
-  pub passes : check_verdict n t ps ≡ Accepted
+  pub passes : check_verdict n t ps ≡ (Ok tt)
   pub accepts : Accepts n t ps
   pub e_is : e ≡ edges (rows n t)
   pub f_is : f ≡ faces (rows n t)
@@ -68,26 +67,27 @@ pub record Checked (n : ℕ) (t : Lent) (ps : List ℤ) (e f : ℕ) : Type 0 whe
 
 module _ (n : ℕ) (t : Lent) (ps : List ℤ) where
   -- what the check's answer tells
-  pub counts_tell : (v e f : ℕ) → check_answer n t ps ≡ counted.Counts v e f → Checked n t ps e f
+  pub counts_tell : (v e f : ℕ) → check_answer n t ps ≡ counted v e f → Checked n t ps e f
   unfolding check_answer with_counts
   counts_tell v e f h = go (check_verdict n t ps) refl h
     where
-      go : (w : Verdict) → check_verdict n t ps ≡ w → with_counts w n (edges (rows n t)) (faces (rows n t)) ≡ counted.Counts v e f
+      go : (w : Verdict) → check_verdict n t ps ≡ w → with_counts w n (edges (rows n t)) (faces (rows n t)) ≡ counted v e f
           → Checked n t ps e f
-      go Accepted c g =
+      go (Ok u) c g =
           let A = accepted_only n t ps c in
-          let k : faces (rows n t) ≡ f = cc in
-          record { passes = c; accepts = A; e_is = cc; f_is = sym k; few_faces = omega (arith, few n t ps A, A.high, k) }
-      go (Refused r) c g = absurd (let z : ◌≡◌ {A = ℕ} 0 1 = cc in omega arith)
+          let d = same_counts g in
+          let k : faces (rows n t) ≡ f = d.2 in
+          record { passes = c; accepts = A; e_is = sym d.1; f_is = sym k; few_faces = omega (arith, few n t ps A, A.high, k) }
+      go (Err r) c g = absurd (let z : ◌≡◌ {A = ℕ} 0 1 = cc in omega arith)
 
-  pub refusal_tells : (r : Refusal) → check_answer n t ps ≡ counted.Refused r → check_verdict n t ps ≡ Refused r
+  pub refusal_tells : (r : Refusal) → check_answer n t ps ≡ Err r → check_verdict n t ps ≡ Err r
   unfolding check_answer with_counts
   refusal_tells r h = go (check_verdict n t ps) refl h
     where
-      go : (w : Verdict) → check_verdict n t ps ≡ w → with_counts w n (edges (rows n t)) (faces (rows n t)) ≡ counted.Refused r
-          → check_verdict n t ps ≡ Refused r
-      go Accepted c g = absurd (let z : ◌≡◌ {A = ℕ} 0 1 = cc in omega arith)
-      go (Refused q) c g = let k : q ≡ r = cc in c ∙ ap Refused k
+      go : (w : Verdict) → check_verdict n t ps ≡ w → with_counts w n (edges (rows n t)) (faces (rows n t)) ≡ Err r
+          → check_verdict n t ps ≡ Err r
+      go (Ok u) c g = absurd (let z : ◌≡◌ {A = ℕ} 0 1 = cc in omega arith)
+      go (Err q) c g = let k : q ≡ r = cc in c ∙ ap Err k
 
   pub size_is : {e f size : ℕ} → Checked n t ps e f → size ≡ text_length n t.valences ps e f → size ≡ length (text_of (rows n t) (coordinate_at ps))
   size_is {e} {f} {size} k h =
@@ -95,27 +95,27 @@ module _ (n : ℕ) (t : Lent) (ps : List ℤ) where
 
 module _ (n : ℕ) (t : Lent) (ps : List ℤ) (room : List ℕ) where
   -- the check refuses
-  pub check_refuses : (r : Refusal) → check_verdict n t ps ≡ Refused r
-      → (amount.Refused r ≡ write_off_answer n t ps room) × (room ≡ write_off_room n t ps room)
+  pub check_refuses : (r : Refusal) → check_verdict n t ps ≡ Err r
+      → (Err r ≡ write_off_answer n t ps room) × (room ≡ write_off_room n t ps room)
   unfolding write_off_answer write_off_room write_off_verdict and_then after with_amount
   check_refuses r c = (rw c, rw c)
 
-  module _ (c : check_verdict n t ps ≡ Accepted) where
-    no_room : length room < length (text_of (rows n t) (coordinate_at ps)) → write_off_verdict n t ps room ≡ Refused NoRoom
+  module _ (c : check_verdict n t ps ≡ (Ok tt)) where
+    no_room : length room < length (text_of (rows n t) (coordinate_at ps)) → write_off_verdict n t ps room ≡ Err NoRoom
     unfolding write_off_verdict and_then refuse_if
     no_room h = rw (c, lt-ltb (length room) (length (text_of (rows n t) (coordinate_at ps))) h)
 
-    enough : length (text_of (rows n t) (coordinate_at ps)) ≤ length room → write_off_verdict n t ps room ≡ Accepted
+    enough : length (text_of (rows n t) (coordinate_at ps)) ≤ length room → write_off_verdict n t ps room ≡ (Ok tt)
     unfolding write_off_verdict and_then refuse_if
     enough h = rw (c, le-ltb (length room) (length (text_of (rows n t) (coordinate_at ps))) h)
 
     pub room_refuses : length room < length (text_of (rows n t) (coordinate_at ps))
-        → (amount.Refused NoRoom ≡ write_off_answer n t ps room) × (room ≡ write_off_room n t ps room)
+        → (Err NoRoom ≡ write_off_answer n t ps room) × (room ≡ write_off_room n t ps room)
     unfolding write_off_answer write_off_room after with_amount
     room_refuses h = (rw (no_room h), rw (no_room h))
 
     pub accepted : {size : ℕ} {room' : List ℕ} → size ≡ length (text_of (rows n t) (coordinate_at ps))
         → Put room 0 (text_of (rows n t) (coordinate_at ps)) room'
-        → (amount.Of size ≡ write_off_answer n t ps room) × (room' ≡ write_off_room n t ps room)
+        → (Ok size ≡ write_off_answer n t ps room) × (room' ≡ write_off_room n t ps room)
     unfolding write_off_answer write_off_room after with_amount
-    accepted e p = let f = p.fits in let v = enough (omega arith) in (rw v (ap amount.Of e), rw v p.is)
+    accepted e p = let f = p.fits in let v = enough (omega arith) in (rw v (ap Ok e), rw v p.is)

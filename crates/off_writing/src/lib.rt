@@ -13,7 +13,7 @@ use mesh::limits::Vertex;
 use off_faces::put_faces;
 use off_length::text_length;
 use off_lines::{put_counts, put_vertices, put_word};
-use rings::{Amount, Counted, Refusal};
+use rings::Refusal;
 
 // The text of a mesh that passed the check, in a room that is long enough.
 fn put_text(
@@ -45,19 +45,15 @@ pub fn write_off(
     positions: &[i32],
     count: usize,
     text: &mut [u8],
-) -> Amount
+) -> Result<usize, Refusal>
     ensures value { result ≡ write_off_answer count (lent valences.now rings.now) positions.now text.old }
     ensures text_after { text.new ≡ write_off_room count (lent valences.now rings.now) positions.now text.old }
 {
-    match check(valences, rings, positions, count) {
-        Counted::Refused(r) => Amount::Refused(r),
-        Counted::Counts { v, e, f } => {
-            let size = text_length(valences, positions, count, e, f);
-            if text.len() < size {
-                return Amount::Refused(Refusal::NoRoom);
-            }
-            put_text(text, valences, rings, positions, count, e, f);
-            Amount::Of(size)
-        }
+    let counts = check(valences, rings, positions, count)?;
+    let size = text_length(valences, positions, count, counts.e, counts.f);
+    if text.len() < size {
+        return Err(Refusal::NoRoom);
     }
+    put_text(text, valences, rings, positions, count, counts.e, counts.f);
+    Ok(size)
 }

@@ -7,13 +7,10 @@ use Prim.Native.Nat.{ℕ}
 use lib.IntN.{ℤ}
 use Rattle.rings.specs.Table.{Lent}
 use Rattle.rings.specs.Paper.{paper_amount, paper_counted, paper_verdict}
-use Rattle.rings.specs.declared.Verdict.{Verdict}
-use Rattle.rings.specs.declared.Counted.{Counted}
-use Rattle.rings.specs.declared.Amount.{Amount}
 use Rattle.ring_row.specs.Edit.{Edit}
 use Rattle.reshape_tables.specs.Calls.{Reshaping}
 use Rattle.move_plan.specs.declared.Move.{Move}
-use Rattle.rings.specs.Refusal.{Paper}
+use Rattle.rings.specs.Refusal.{Paper, Amount, Counted, Verdict}
 use Rattle.c_answers.specs.Crossing.{counts_paper, value_paper}
 use Rattle.c_answers.specs.declared.CountsAnswer.{CountsAnswer}
 use Rattle.c_answers.specs.declared.ValueAnswer.{ValueAnswer}

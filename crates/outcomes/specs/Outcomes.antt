@@ -3,11 +3,8 @@
 -- A query and the check write nothing: their tables are lent as they are, and the answer is all.
 -- Assumes nothing.
 use Rattle.std.specs.Prelude.{◌≡◌, List, ℕ, ℤ, length}
-use Rattle.rings.specs.declared.Verdict.{Verdict}
-use Rattle.rings.specs.declared.Counted.{Counted}
-use Rattle.rings.specs.declared.Amount.{Amount}
 use Rattle.rings.specs.Table.{Lent, lent, put}
-use Rattle.rings.specs.Refusal.{Paper}
+use Rattle.rings.specs.Refusal.{Paper, Amount, Counted, Verdict}
 use Rattle.ring_row.specs.Edit.{Edit, valences_after, rings_after}
 use Rattle.reshape_tables.specs.Calls.{Reshaping, reshape_answer, reshaped_valences, reshaped_rings, reshaped_positions}
 use Rattle.move_lists.specs.Apply.{apply_answer, apply_positions, apply_map}

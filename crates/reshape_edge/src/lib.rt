@@ -11,21 +11,18 @@ ghost use Rattle.reshape_edge.specs.Judged.{EdgeFound, with_edge};
 use check_mesh::judge;
 use mesh::limits::{LEAST_VALENCE, Vertex};
 use reshape_room::{is_full, judge_new};
-use ring_beside::{Beside, after_in, before_in};
+use ring_beside::{after_in, before_in};
+use rings::Refusal;
 use rings::ring::is_there;
 use rings::table::ring_of;
-use rings::{Refusal, Verdict};
 
-// An edge that may be edited, the lesser end first, with the vertices beside it; or why there is none.
+// An edge that may be edited, the lesser end first, with the vertices beside it.
 #[derive(Clone, Copy)]
-pub enum JudgedEdge {
-    Edge {
-        p: usize,
-        q: usize,
-        a: usize,
-        b: usize,
-    },
-    Refused(Refusal),
+pub struct Edge {
+    pub p: usize,
+    pub q: usize,
+    pub a: usize,
+    pub b: usize,
 }
 
 // The lesser of two numbers.
@@ -43,47 +40,42 @@ fn greater(u: usize, v: usize) -> usize
 }
 
 // The edge u, v in tables that passed the check: 3, 18 and 16.
-fn judge_edge(valences: &[u16], rings: &[Vertex], count: usize, u: usize, v: usize) -> JudgedEdge
+fn judge_edge(
+    valences: &[u16],
+    rings: &[Vertex],
+    count: usize,
+    u: usize,
+    v: usize,
+) -> Result<Edge, Refusal>
     requires { Checked count (lent valences.now rings.now) }
     ensures { result
         ≡ with_edge (edge_verdict count (lent valences.now rings.now) u v)
         (rows count (lent valences.now rings.now)) u v }
 {
     if count <= u {
-        return JudgedEdge::Refused(Refusal::NoSuchVertex(0));
+        return Err(Refusal::NoSuchVertex(0));
     }
     if count <= v {
-        return JudgedEdge::Refused(Refusal::NoSuchVertex(0));
+        return Err(Refusal::NoSuchVertex(0));
     }
     let p = lesser(u, v);
     let q = greater(u, v);
     let ring = ring_of(valences, rings, p);
-    let Beside::At {
-        vertex: a,
-        place: _,
-    } = after_in(ring, q)
-    else {
-        return JudgedEdge::Refused(Refusal::NoEdgeOrFace);
+    let Some(behind) = after_in(ring, q) else {
+        return Err(Refusal::NoEdgeOrFace);
     };
-    let Beside::At {
-        vertex: b,
-        place: _,
-    } = before_in(ring, q)
-    else {
-        return JudgedEdge::Refused(Refusal::NoEdgeOrFace);
+    let Some(before) = before_in(ring, q) else {
+        return Err(Refusal::NoEdgeOrFace);
     };
-    if is_full(valences, a as usize) {
-        return JudgedEdge::Refused(Refusal::RingFull);
+    let a = behind.vertex as usize;
+    let b = before.vertex as usize;
+    if is_full(valences, a) {
+        return Err(Refusal::RingFull);
     }
-    if is_full(valences, b as usize) {
-        return JudgedEdge::Refused(Refusal::RingFull);
+    if is_full(valences, b) {
+        return Err(Refusal::RingFull);
     }
-    JudgedEdge::Edge {
-        p: p,
-        q: q,
-        a: a as usize,
-        b: b as usize,
-    }
+    Ok(Edge { p, q, a, b })
 }
 
 // Has an end of the edge p, q valence 3, or are the vertices beside it neighbours?
@@ -116,23 +108,17 @@ pub fn judge_flip(
     count: usize,
     u: usize,
     v: usize,
-) -> JudgedEdge
+) -> Result<Edge, Refusal>
     ensures { result
         ≡ with_edge (flip_verdict count (lent valences.now rings.now) positions.now u v)
         (rows count (lent valences.now rings.now)) u v }
 {
-    if let Verdict::Refused(r) = judge(valences, rings, positions, count) {
-        return JudgedEdge::Refused(r);
+    judge(valences, rings, positions, count)?;
+    let edge = judge_edge(valences, rings, count, u, v)?;
+    if cannot_flip(valences, rings, count, edge.p, edge.q, edge.a, edge.b) {
+        return Err(Refusal::CannotFlip);
     }
-    match judge_edge(valences, rings, count, u, v) {
-        JudgedEdge::Refused(r) => JudgedEdge::Refused(r),
-        JudgedEdge::Edge { p, q, a, b } => {
-            if cannot_flip(valences, rings, count, p, q, a, b) {
-                return JudgedEdge::Refused(Refusal::CannotFlip);
-            }
-            JudgedEdge::Edge { p, q, a, b }
-        }
-    }
+    Ok(edge)
 }
 
 // A split of the edge u, v.
@@ -143,21 +129,13 @@ pub fn judge_edge_split(
     count: usize,
     u: usize,
     v: usize,
-) -> JudgedEdge
+) -> Result<Edge, Refusal>
     ensures { result
         ≡ with_edge (split_edge_verdict count (lent valences.now rings.now) positions.now u v)
         (rows count (lent valences.now rings.now)) u v }
 {
-    if let Verdict::Refused(r) = judge(valences, rings, positions, count) {
-        return JudgedEdge::Refused(r);
-    }
-    match judge_edge(valences, rings, count, u, v) {
-        JudgedEdge::Refused(r) => JudgedEdge::Refused(r),
-        JudgedEdge::Edge { p, q, a, b } => {
-            if let Verdict::Refused(r) = judge_new(valences, rings, positions, count) {
-                return JudgedEdge::Refused(r);
-            }
-            JudgedEdge::Edge { p, q, a, b }
-        }
-    }
+    judge(valences, rings, positions, count)?;
+    let edge = judge_edge(valences, rings, count, u, v)?;
+    judge_new(valences, rings, positions, count)?;
+    Ok(edge)
 }

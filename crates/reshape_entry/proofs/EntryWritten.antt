@@ -18,6 +18,7 @@ use Rattle.ring_row.specs.Places.{open_edit}
 use Rattle.ring_row.specs.Edit.{valences_with, rings_with, valences_after, rings_after}
 use Rattle.ring_row.proofs.TablesWritten.{ring_long, valence_kept}
 use Rattle.reshape_entry.specs.Ready.{Ready}
+use Rattle.std.specs.Prelude.{Ok}
 
 -- the tables once v's row and valence are written
 abbrev pub Wrote : Lent → ℕ → List ℕ → Lent → Type 0
@@ -34,6 +35,11 @@ module _ {more : ℕ} {t : Lent} {v c : ℕ} (r : Ready more t v c) where
   ready_place i e = omega (arith, place_lt c (ring_of t v) r.there, ready_long)
 
 module _ (t : Lent) (v c : ℕ) where
+  -- there is room, so 16 does not refuse it
+  pub put_accepted : Ready 1 t v c → (i x : ℕ) → (open_edit t v i x).verdict ≡ Ok tt
+  unfolding open_edit refuse_if
+  put_accepted r i x = rw (lt-leb most_valence (valence_at t v) (omega (arith, r.room)))
+
   pub entry_put : Ready 1 t v c → (i x : ℕ) → i ≡ place c (ring_of t v) → (rs' vs' : List ℕ)
       → rs' ≡ rings_after (open_edit t v (i + 1) x) t.rings v → vs' ≡ valences_after (open_edit t v (i + 1) x) t.valences v
       → Wrote t v (insert_after c x (ring_of t v)) (lent vs' rs')

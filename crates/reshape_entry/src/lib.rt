@@ -23,7 +23,7 @@ pub fn put_after(valences: &mut [u16], rings: &mut [Vertex], v: usize, c: usize,
         ≡ valences_with true valences.old v (insert_after c x (ring_of (lent valences.old rings.old) v)) }
 {
     let i = seek(ring_of(valences, rings, v), c);
-    insert_at(valences, rings, v, i + 1, x);
+    insert_at(valences, rings, v, i + 1, x).unwrap();
 }
 
 // c out of the ring.

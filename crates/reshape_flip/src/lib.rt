@@ -7,9 +7,9 @@ ghost use Rattle.reshape_tables.specs.Calls.{edge_flipping, reshape_answer, resh
 
 use check_mesh::counts;
 use mesh::limits::Vertex;
-use reshape_edge::{JudgedEdge, judge_flip};
+use reshape_edge::{Edge, judge_flip};
 use reshape_rows::write_flip;
-use rings::Counted;
+use rings::{Counts, Refusal};
 
 // Flips the edge u, v: the two vertices beside it are joined instead.
 pub fn flip(
@@ -19,18 +19,14 @@ pub fn flip(
     count: usize,
     u: usize,
     v: usize,
-) -> Counted
+) -> Result<Counts, Refusal>
     ensures value { result ≡ reshape_answer (edge_flipping count (lent valences.old rings.old) positions.now u v) }
     ensures rings_after { rings.new
         ≡ reshaped_rings (edge_flipping count (lent valences.old rings.old) positions.now u v) rings.old }
     ensures valences_after { valences.new
         ≡ reshaped_valences (edge_flipping count (lent valences.old rings.old) positions.now u v) valences.old }
 {
-    match judge_flip(valences, rings, positions, count, u, v) {
-        JudgedEdge::Refused(r) => Counted::Refused(r),
-        JudgedEdge::Edge { p, q, a, b } => {
-            write_flip(valences, rings, p, q, a, b);
-            counts(valences, count)
-        }
-    }
+    let Edge { p, q, a, b } = judge_flip(valences, rings, positions, count, u, v)?;
+    write_flip(valences, rings, p, q, a, b);
+    Ok(counts(valences, count))
 }

@@ -10,13 +10,13 @@ use Rattle.mesh.specs.Limits.{most_valence}
 use Rattle.mesh.specs.Ring.{◌∈◌}
 use Rattle.rings.specs.Table.{Lent, valence_at, rows, ring_of}
 use Rattle.rings.specs.Check.{check_verdict}
-use Rattle.rings.specs.declared.Verdict.TheVariants.{Accepted}
 use Rattle.rings.proofs.Rows.{rows_ring, fit_length}
 use Rattle.rings.proofs.Accepted.{accepted_only, accepted_fit}
 use Rattle.reshape.specs.Reshape.{full}
 use Rattle.reshape_room.specs.Checked.{Checked}
+use Rattle.std.specs.Prelude.{Ok}
 
-pub passed_check : (n : ℕ) (t : Lent) (ps : List ℤ) → Accepted ≡ check_verdict n t ps → Checked n t
+pub passed_check : (n : ℕ) (t : Lent) (ps : List ℤ) → Ok tt ≡ check_verdict n t ps → Checked n t
 passed_check n t ps h =
     let a = accepted_only n t ps (sym h) in
     record { fit = accepted_fit n t ps (sym h); sound = a.sound; high = a.high }

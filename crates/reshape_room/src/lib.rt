@@ -7,8 +7,8 @@ ghost use Rattle.rings.specs.Table.{lent};
 ghost use Rattle.reshape_tables.specs.Calls.{new_verdict};
 
 use mesh::limits::{MOST_COUNT, MOST_VALENCE, Vertex};
+use rings::Refusal;
 use rings::table::is_short;
-use rings::{Refusal, Verdict};
 
 // Has the ring of v no room for an entry more?
 pub fn is_full(valences: &[u16], v: usize) -> bool
@@ -19,14 +19,19 @@ pub fn is_full(valences: &[u16], v: usize) -> bool
 }
 
 // A new vertex: 16 and 10.
-pub fn judge_new(valences: &[u16], rings: &[Vertex], positions: &[i32], count: usize) -> Verdict
+pub fn judge_new(
+    valences: &[u16],
+    rings: &[Vertex],
+    positions: &[i32],
+    count: usize,
+) -> Result<(), Refusal>
     ensures { result ≡ new_verdict count (lent valences.now rings.now) positions.now }
 {
     if MOST_COUNT <= count {
-        return Verdict::Refused(Refusal::RingFull);
+        return Err(Refusal::RingFull);
     }
     if is_short(valences, rings, positions, count + 1) {
-        return Verdict::Refused(Refusal::NoRoom);
+        return Err(Refusal::NoRoom);
     }
-    Verdict::Accepted
+    Ok(())
 }

@@ -8,10 +8,10 @@ ghost use Rattle.reshape_tables.specs.Calls.{edge_splitting, reshape_answer, res
 use check_mesh::counts;
 use loop_points::points::set_point;
 use mesh::limits::Vertex;
-use reshape_edge::{JudgedEdge, judge_edge_split};
+use reshape_edge::{Edge, judge_edge_split};
 use reshape_mean::mean_point;
 use reshape_rows::write_edge_split;
-use rings::Counted;
+use rings::{Counts, Refusal};
 
 // Splits the edge u, v by a new vertex at the mean of its ends.
 pub fn split_edge(
@@ -21,7 +21,7 @@ pub fn split_edge(
     count: usize,
     u: usize,
     v: usize,
-) -> Counted
+) -> Result<Counts, Refusal>
     ensures value { result ≡ reshape_answer (edge_splitting count (lent valences.old rings.old) positions.old u v) }
     ensures rings_after { rings.new
         ≡ reshaped_rings (edge_splitting count (lent valences.old rings.old) positions.old u v) rings.old }
@@ -31,13 +31,9 @@ pub fn split_edge(
         ≡ reshaped_positions (edge_splitting count (lent valences.old rings.old) positions.old u v) count
         positions.old }
 {
-    match judge_edge_split(valences, rings, positions, count, u, v) {
-        JudgedEdge::Refused(r) => Counted::Refused(r),
-        JudgedEdge::Edge { p, q, a, b } => {
-            let ends = [p as Vertex, q as Vertex];
-            set_point(positions, count, mean_point(&ends, positions, count));
-            write_edge_split(valences, rings, p, q, a, b, count);
-            counts(valences, count + 1)
-        }
-    }
+    let Edge { p, q, a, b } = judge_edge_split(valences, rings, positions, count, u, v)?;
+    let ends = [p as Vertex, q as Vertex];
+    set_point(positions, count, mean_point(&ends, positions, count));
+    write_edge_split(valences, rings, p, q, a, b, count);
+    Ok(counts(valences, count + 1))
 }

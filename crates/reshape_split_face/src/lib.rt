@@ -8,10 +8,10 @@ ghost use Rattle.reshape_tables.specs.Calls.{face_splitting, reshape_answer, res
 use check_mesh::counts;
 use loop_points::points::set_point;
 use mesh::limits::Vertex;
-use reshape_face::{JudgedFace, judge_face_split};
+use reshape_face::{Face, judge_face_split};
 use reshape_mean::mean_point;
 use reshape_rows::write_face_split;
-use rings::Counted;
+use rings::{Counts, Refusal};
 
 // Splits the face u, v, w by a new vertex at the mean of its corners.
 pub fn split_face(
@@ -22,7 +22,7 @@ pub fn split_face(
     u: usize,
     v: usize,
     w: usize,
-) -> Counted
+) -> Result<Counts, Refusal>
     ensures value { result ≡ reshape_answer (face_splitting count (lent valences.old rings.old) positions.old u v w) }
     ensures rings_after { rings.new
         ≡ reshaped_rings (face_splitting count (lent valences.old rings.old) positions.old u v w) rings.old }
@@ -32,13 +32,9 @@ pub fn split_face(
         ≡ reshaped_positions (face_splitting count (lent valences.old rings.old) positions.old u v w) count
         positions.old }
 {
-    match judge_face_split(valences, rings, positions, count, u, v, w) {
-        JudgedFace::Refused(r) => Counted::Refused(r),
-        JudgedFace::Face { u, v, w } => {
-            let corners = [u as Vertex, v as Vertex, w as Vertex];
-            set_point(positions, count, mean_point(&corners, positions, count));
-            write_face_split(valences, rings, u, v, w, count);
-            counts(valences, count + 1)
-        }
-    }
+    let Face { u, v, w } = judge_face_split(valences, rings, positions, count, u, v, w)?;
+    let corners = [u as Vertex, v as Vertex, w as Vertex];
+    set_point(positions, count, mean_point(&corners, positions, count));
+    write_face_split(valences, rings, u, v, w, count);
+    Ok(counts(valences, count + 1))
 }

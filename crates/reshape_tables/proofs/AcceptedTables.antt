@@ -16,7 +16,6 @@ use Rattle.rings.specs.Table.{Lent, lent, rows, coordinate_at}
 use Rattle.rings.specs.Verdict.{with_counts}
 use Rattle.rings.specs.Check.{check_answer}
 use Rattle.rings.specs.Accepts.{Accepts}
-use Rattle.rings.specs.declared.Counted.TheVariants.{Counts}
 use Rattle.rings.proofs.Tables.{length_put, put_before, put_within}
 use Rattle.rings.proofs.Accepted.{accepted_all}
 use Rattle.reshape.specs.Rows.{Row, rewritten}
@@ -26,6 +25,7 @@ use Rattle.reshape.proofs.MeansStayInRange.{mean_stays_in_range}
 use Rattle.reshape_tables.specs.Written.{valences_by, rings_by, mean_put}
 use Rattle.reshape_tables.proofs.Judged.{NewRow}
 use Rattle.reshape_tables.proofs.RowsWritten.{Named, RowsFit, fit_writable, lengths_by, valence_by, rows_by}
+use Rattle.rings.specs.Refusal.{counted}
 
 -- ---- the point
 
@@ -102,6 +102,6 @@ module _ (n : ℕ) (t : Lent) (ps : List ℤ) (a : Accepts n t ps) (l : List Row
 
 -- what the check then answers
 pub passes_counts : (n : ℕ) (t : Lent) (ps : List ℤ) (N : Mesh) → Accepts n t ps → rows n t ≡ N
-    → check_answer n t ps ≡ Counts n (edges N) (faces N)
+    → check_answer n t ps ≡ counted n (edges N) (faces N)
 unfolding check_answer with_counts
 passes_counts n t ps N a e = rw (accepted_all n t ps a, e)

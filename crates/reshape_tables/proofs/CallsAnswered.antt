@@ -13,9 +13,6 @@ use Rattle.rings.specs.Table.{Lent, lent, put}
 use Rattle.rings.specs.Verdict.{after, with_counts}
 use Rattle.rings.specs.Check.{counts_of}
 use Rattle.rings.specs.declared.Refusal.{Refusal}
-use Rattle.rings.specs.declared.Verdict.TheVariants.{Accepted, Refused}
-use Rattle.rings.specs.declared.Counted.{Counted}
-use Rattle.rings.specs.declared.Counted.TheVariants as counted
 use Rattle.rings.proofs.Accepted.{accepted_only, check_counts}
 use Rattle.loop_points.specs.Level.{point_by, coordinates}
 use Rattle.reshape.specs.Rows.{Row}
@@ -23,11 +20,13 @@ use Rattle.reshape.specs.Mean.{mean_mask}
 use Rattle.reshape_tables.specs.Written.{valences_by, rings_by, mean_put}
 use Rattle.reshape_tables.specs.Calls.{Reshaping, reshape_answer, reshaped_valences, reshaped_rings, reshaped_positions}
 use Rattle.reshape_tables.proofs.ReshapedTablesPassTheCheck.{Passed}
+use Rattle.rings.specs.Refusal.{Counted}
+use Rattle.std.specs.Prelude.{Ok, Err}
 
 -- ---- refused
 
-module _ (e : Reshaping) {r : Refusal} (h : Refused r ≡ e.verdict) where
-  refused_answer : counted.Refused r ≡ reshape_answer e
+module _ (e : Reshaping) {r : Refusal} (h : Err r ≡ e.verdict) where
+  refused_answer : Err r ≡ reshape_answer e
   unfolding reshape_answer with_counts
   refused_answer = rw (← h)
 
@@ -43,18 +42,18 @@ module _ (e : Reshaping) {r : Refusal} (h : Refused r ≡ e.verdict) where
   unfolding reshaped_positions after
   refused_positions n ps = rw (← h)
 
-  pub flip_refused : (t : Lent) → (counted.Refused r ≡ reshape_answer e) × ((t.rings ≡ reshaped_rings e t.rings) × (t.valences ≡ reshaped_valences e t.valences))
+  pub flip_refused : (t : Lent) → (Err r ≡ reshape_answer e) × ((t.rings ≡ reshaped_rings e t.rings) × (t.valences ≡ reshaped_valences e t.valences))
   flip_refused t = (refused_answer, (refused_rings t.rings, refused_valences t.valences))
 
   pub split_refused : (n : ℕ) (t : Lent) (ps : List ℤ)
-      → (counted.Refused r ≡ reshape_answer e) × ((t.rings ≡ reshaped_rings e t.rings) × ((t.valences ≡ reshaped_valences e t.valences) × (ps ≡ reshaped_positions e n ps)))
+      → (Err r ≡ reshape_answer e) × ((t.rings ≡ reshaped_rings e t.rings) × ((t.valences ≡ reshaped_valences e t.valences) × (ps ≡ reshaped_positions e n ps)))
   split_refused n t ps = (refused_answer, (refused_rings t.rings, (refused_valences t.valences, refused_positions n ps)))
 
 -- ---- accepted
 
 -- the edit is accepted, its rows are l, and the tables of n vertices after it pass the check
 pub record EditDone (e : Reshaping) (n : ℕ) (t : Lent) (ps : List ℤ) (l : List Row) : Type 0 where
-  pub accepts : Accepted ≡ e.verdict
+  pub accepts : Ok tt ≡ e.verdict
   pub rows_are : l ≡ e.written
   pub passes : Passed e n (lent (reshaped_valences e t.valences) (reshaped_rings e t.rings)) ps
 
@@ -86,7 +85,7 @@ module _ {e : Reshaping} {n : ℕ} {t : Lent} {ps : List ℤ} {l : List Row} (d 
 
 -- a split of n vertices whose new one lies between these corners
 pub record SplitDone (e : Reshaping) (n : ℕ) (t : Lent) (ps : List ℤ) (l : List Row) (corners : List ℕ) : Type 0 where
-  pub accepts : Accepted ≡ e.verdict
+  pub accepts : Ok tt ≡ e.verdict
   pub rows_are : l ≡ e.written
   pub between_are : corners ≡ e.between
   pub passes : Passed e (suc n) (lent (reshaped_valences e t.valences) (reshaped_rings e t.rings)) (reshaped_positions e n ps)

@@ -1,7 +1,7 @@
 -- An edge named from its other end and a face named from another corner are the same call (document 02, order 1): the same answer, the same tables.
 -- Assumes nothing.
 use mathlib.Core.Path.{◌≡◌, refl, ap, ◌∙◌}
-use mathlib.Core.Bool.{Bool, true, false, cond, ◌||◌}
+use mathlib.Core.Bool.{Bool, true, false, ◌||◌}
 use mathlib.Core.List.{List}
 use Prim.Native.Nat.{ℕ}
 use native.Mathlib.Nat.{min_comm, max_comm}
@@ -14,15 +14,14 @@ use Rattle.mesh.proofs.First.{or_comm, or_swap}
 use Rattle.rings.specs.Table.{Lent, rows}
 use Rattle.rings.specs.Verdict.{refuse_if, and_then}
 use Rattle.rings.specs.Check.{check_verdict}
-use Rattle.rings.specs.declared.Refusal.TheVariants.{NoSuchVertex, RingFull, NoEdgeOrFace}
-use Rattle.rings.specs.declared.Verdict.{Verdict}
-use Rattle.rings.specs.declared.Verdict.TheVariants.{Accepted, Refused}
 use Rattle.rings.proofs.Accepted.{accepted_only}
-use Rattle.reshape.specs.Reshape.{split_edge, split_face, flip, no_face, full_corner}
+use Rattle.reshape.specs.Reshape.{split_edge, split_face, flip}
 use Rattle.reshape.proofs.EitherEnd.{no_face_from_any_corner, full_corner_from_any_corner, corners_from_any_corner}
 use Rattle.reshape_tables.specs.Calls.{edge_verdict, face_verdict, turn_verdict, new_verdict}
 use Rattle.reshape_tables.specs.Calls.{split_edge_verdict, split_face_verdict, flip_verdict, edge_splitting, face_splitting, edge_flipping}
 use Rattle.reshape_tables.proofs.Judged.{face_split_judged}
+use Rattle.rings.specs.Refusal.{Verdict}
+use Rattle.std.specs.Prelude.{Ok, Err}
 
 module _ (n : ℕ) (t : Lent) (ps : List ℤ) where
   edge_verdict_same : (u v : ℕ) → edge_verdict n t u v ≡ edge_verdict n t v u
@@ -46,11 +45,7 @@ module _ (n : ℕ) (t : Lent) where
       turned : leb n v || (leb n w || leb n u) ≡ leb n u || (leb n v || leb n w)
       turned = ap (λ (z : Bool). leb n v || z) (or_comm (leb n w) (leb n u)) ∙ or_swap (leb n v) (leb n u) (leb n w)
 
-      go : (b : Bool) → leb n u || (leb n v || leb n w) ≡ b
-          → cond (leb n u || (leb n v || leb n w)) (Refused (NoSuchVertex 0))
-          (cond (no_face (rows n t) u v w) (Refused NoEdgeOrFace) (cond (full_corner (rows n t) u v w) (Refused RingFull) Accepted))
-          ≡ cond (leb n v || (leb n w || leb n u)) (Refused (NoSuchVertex 0))
-          (cond (no_face (rows n t) v w u) (Refused NoEdgeOrFace) (cond (full_corner (rows n t) v w u) (Refused RingFull) Accepted))
+      go : (b : Bool) → leb n u || (leb n v || leb n w) ≡ b → face_verdict n t u v w ≡ face_verdict n t v w u
       go true e = rw (turned, e)
       go false e =
           let k = or_false (leb n u) (leb n v || leb n w) e in
@@ -66,11 +61,11 @@ module _ (n : ℕ) (t : Lent) where
         go : (c : Verdict) → check_verdict n t ps ≡ c
             → and_then (check_verdict n t ps) (and_then (face_verdict n t u v w) (new_verdict n t ps))
             ≡ and_then (check_verdict n t ps) (and_then (face_verdict n t v w u) (new_verdict n t ps))
-        go Accepted e = rw (face_verdict_same (accepted_only n t ps e).sound u v w)
-        go (Refused r) e = rw e
+        go (Ok _) e = rw (face_verdict_same (accepted_only n t ps e).sound u v w)
+        go (Err r) e = rw e
 
     -- and an accepted one is the same edit
-    pub face_split_from_any_corner : split_face_verdict n t ps u v w ≡ Accepted → face_splitting n t ps u v w ≡ face_splitting n t ps v w u
+    pub face_split_from_any_corner : split_face_verdict n t ps u v w ≡ Ok tt → face_splitting n t ps u v w ≡ face_splitting n t ps v w u
     unfolding face_splitting split_face rows
     face_split_from_any_corner h =
         let j = face_split_judged n t ps u v w h in

@@ -10,7 +10,6 @@ use Rattle.mesh.specs.Ring.{SameRound}
 use Rattle.mesh.specs.Mesh.{Mesh}
 use Rattle.rings.specs.Table.{Lent, lent, rows}
 use Rattle.rings.specs.Verdict.{refuse_if, and_then}
-use Rattle.rings.specs.declared.Verdict.TheVariants.{Accepted}
 use Rattle.reshape.specs.Reshape.{beyond, behind, flip}
 use Rattle.reshape.specs.Rows.{rewritten}
 use Rattle.reshape.proofs.FlipBack.{Undone}
@@ -18,17 +17,18 @@ use Rattle.reshape.proofs.FlippingBackGivesTheOldRings.{may_be_flipped_back, fli
 use Rattle.reshape_tables.specs.Calls.{edge_verdict, turn_verdict, flip_verdict, edge_flipping, reshaped_valences, reshaped_rings}
 use Rattle.reshape_tables.proofs.Judged.{flip_judged}
 use Rattle.reshape_tables.proofs.ReshapedTablesPassTheCheck.{Passed, flip_passes_check}
+use Rattle.std.specs.Prelude.{Ok}
 
 -- an edge that no test refuses, in tables that hold this mesh
 undone_judged : (n : ℕ) (t : Lent) (M N : Mesh) (a b : ℕ) → rows n t ≡ N → N.count ≡ n → Undone M N (min a b) (max a b)
-    → (edge_verdict n t a b ≡ Accepted) × (turn_verdict n t a b ≡ Accepted)
+    → (edge_verdict n t a b ≡ Ok tt) × (turn_verdict n t a b ≡ Ok tt)
 unfolding edge_verdict turn_verdict refuse_if
 undone_judged n t M N a b m c d =
     let x = d.known.0 in
     let y = d.known.1 in
     (rw (lt-leb n a (omega arith), lt-leb n b (omega arith), m, d.edge, d.room), rw (m, d.loose))
 
-module _ (n : ℕ) (t : Lent) (ps : List ℤ) (u v : ℕ) (h : flip_verdict n t ps u v ≡ Accepted) where
+module _ (n : ℕ) (t : Lent) (ps : List ℤ) (u v : ℕ) (h : flip_verdict n t ps u v ≡ Ok tt) where
   -- the vertices that the flip joins, and the tables after it
   abbrev pub joined_a : ℕ
   joined_a = beyond (rows n t) (min u v) (max u v)
@@ -59,7 +59,7 @@ module _ (n : ℕ) (t : Lent) (ps : List ℤ) (u v : ℕ) (h : flip_verdict n t 
   unfolding flip rows rewritten
   counted = refl
 
-  pub flipping_back_is_accepted : flip_verdict n (lent flipped_valences flipped_rings) ps joined_a joined_b ≡ Accepted
+  pub flipping_back_is_accepted : flip_verdict n (lent flipped_valences flipped_rings) ps joined_a joined_b ≡ Ok tt
   unfolding flip_verdict and_then
   flipping_back_is_accepted =
       let d = undone_judged n (lent flipped_valences flipped_rings) (rows n t) (flip (rows n t) u v) joined_a joined_b holds counted back in

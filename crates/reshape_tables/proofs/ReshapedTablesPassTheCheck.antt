@@ -14,7 +14,6 @@ use Rattle.rings.specs.Table.{Lent, lent, rows}
 use Rattle.rings.specs.Verdict.{after, with_counts}
 use Rattle.rings.specs.Check.{check_verdict, check_answer}
 use Rattle.rings.specs.Accepts.{Accepts}
-use Rattle.rings.specs.declared.Verdict.TheVariants.{Accepted}
 use Rattle.rings.proofs.Accepted.{accepted_all}
 use Rattle.reshape.specs.Rows.{rewritten}
 use Rattle.reshape.specs.Reshape.{Corners, beyond, behind, from_smallest, edge_rows, face_rows, flip_rows, split_edge, split_face, flip}
@@ -28,14 +27,15 @@ use Rattle.reshape_tables.proofs.RowsWritten.{RowsFit, Named, rows_by}
 use Rattle.reshape_tables.proofs.RowsFitted.{edge_rows_fit, face_rows_fit, flip_rows_fit}
 use Rattle.reshape_tables.proofs.AcceptedTables.{split_rows, split_passes, flip_passes, passes_counts}
 use Rattle.reshape_tables.proofs.Judged.{edge_split_judged, face_split_judged, flip_judged}
+use Rattle.std.specs.Prelude.{Ok}
 
 -- n vertices in these tables are what the edit says
 pub record Passed (e : Reshaping) (n : ℕ) (t : Lent) (ps : List ℤ) : Type 0 where
   pub mesh : rows n t ≡ e.result
-  pub checks : check_verdict n t ps ≡ Accepted
+  pub checks : check_verdict n t ps ≡ Ok tt
   pub answers : check_answer n t ps ≡ reshape_answer e
 
-passed : (e : Reshaping) (n : ℕ) (t : Lent) (ps : List ℤ) → e.verdict ≡ Accepted → e.result.count ≡ n
+passed : (e : Reshaping) (n : ℕ) (t : Lent) (ps : List ℤ) → e.verdict ≡ Ok tt → e.result.count ≡ n
     → rows n t ≡ e.result → Accepts n t ps → Passed e n t ps
 unfolding reshape_answer with_counts
 passed e n t ps h c m a = record {
@@ -45,7 +45,7 @@ passed e n t ps h c m a = record {
 }
 
 -- the tables after an accepted edit are those with its rows, and its point
-module _ (e : Reshaping) (h : e.verdict ≡ Accepted) where
+module _ (e : Reshaping) (h : e.verdict ≡ Ok tt) where
   split_passed : (n : ℕ) (t : Lent) (ps : List ℤ) → e.result.count ≡ suc n
       → rows (suc n) (lent (valences_by e.written t.valences) (rings_by e.written t.rings)) ≡ e.result
       → Accepts (suc n) (lent (valences_by e.written t.valences) (rings_by e.written t.rings)) (mean_put n e.between ps)
@@ -68,7 +68,7 @@ module _ (e : Reshaping) (h : e.verdict ≡ Accepted) where
 module _ (n : ℕ) (t : Lent) (ps : List ℤ) where
   -- ---- an edge split
 
-  module _ (u v : ℕ) (h : split_edge_verdict n t ps u v ≡ Accepted) where
+  module _ (u v : ℕ) (h : split_edge_verdict n t ps u v ≡ Ok tt) where
     edge_kept : Kept (rows n t) (split_edge (rows n t) u v) 1
     unfolding rows
     edge_kept =
@@ -97,7 +97,7 @@ module _ (n : ℕ) (t : Lent) (ps : List ℤ) where
 
   -- ---- a face split
 
-  module _ (u v w : ℕ) (h : split_face_verdict n t ps u v w ≡ Accepted) where
+  module _ (u v w : ℕ) (h : split_face_verdict n t ps u v w ≡ Ok tt) where
     face_kept : Kept (rows n t) (split_face (rows n t) u v w) 1
     unfolding rows
     face_kept =
@@ -125,7 +125,7 @@ module _ (n : ℕ) (t : Lent) (ps : List ℤ) where
 
   -- ---- an edge flipped
 
-  module _ (u v : ℕ) (h : flip_verdict n t ps u v ≡ Accepted) where
+  module _ (u v : ℕ) (h : flip_verdict n t ps u v ≡ Ok tt) where
     flip_kept : Kept (rows n t) (flip (rows n t) u v) 0
     unfolding rows
     flip_kept =

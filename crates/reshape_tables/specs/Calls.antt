@@ -3,20 +3,18 @@
 -- All are refused by the check first; then 3 for a number that is no vertex, 18, 16, 19 and 10, each with place 0.
 -- An accepted call answers V, E and F of the mesh after it, as an accepted check does. A refused one writes nothing.
 -- Assumes nothing.
-use Rattle.std.specs.Prelude.{◌||◌, List, [], ◌∷◌, ℕ, suc, min, max, leb, ℤ}
+use Rattle.std.specs.Prelude.{◌||◌, List, [], ◌∷◌, ℕ, suc, min, max, leb, ℤ, Ok}
 use Rattle.mesh.specs.Mesh.{Mesh, edges, faces}
 use Rattle.rings.specs.Table.{Lent, rows}
 use Rattle.rings.specs.Verdict.{refuse_if, and_then, after, with_counts}
 use Rattle.rings.specs.Check.{short_tables, check_verdict}
 use Rattle.rings.specs.declared.Refusal.TheVariants.{NoSuchVertex, NoRoom, RingFull, NoEdgeOrFace, CannotFlip}
-use Rattle.rings.specs.declared.Verdict.{Verdict}
-use Rattle.rings.specs.declared.Verdict.TheVariants.{Accepted}
-use Rattle.rings.specs.declared.Counted.{Counted}
 use Rattle.reshape.specs.Rows.{Row}
 use Rattle.reshape.specs.Reshape.{from_smallest, edge_rows, face_rows, flip_rows}
 use Rattle.reshape.specs.Reshape.{split_edge, split_face, flip}
 use Rattle.reshape.specs.Reshape.{no_edge, no_face, no_number, full_beside, full_corner, cannot_flip}
 use Rattle.reshape_tables.specs.Written.{valences_by, rings_by, mean_put}
+use Rattle.rings.specs.Refusal.{Counted, Verdict}
 
 -- ---- what is judged after the check
 
@@ -27,7 +25,7 @@ module _ (n : ℕ) (t : Lent) where
       refuse_if (leb n u || leb n v) (NoSuchVertex 0)
       (refuse_if (no_edge (rows n t) (min u v) (max u v)) NoEdgeOrFace
       (refuse_if (full_beside (rows n t) (min u v) (max u v)) RingFull
-      Accepted))
+      (Ok tt)))
 
   -- 3, 18 and 16 of the face named by u, v and w
   unfoldable pub face_verdict : ℕ → ℕ → ℕ → Verdict
@@ -35,15 +33,15 @@ module _ (n : ℕ) (t : Lent) where
       refuse_if (leb n u || (leb n v || leb n w)) (NoSuchVertex 0)
       (refuse_if (no_face (rows n t) u v w) NoEdgeOrFace
       (refuse_if (full_corner (rows n t) u v w) RingFull
-      Accepted))
+      (Ok tt)))
 
   -- 19 of a flip
   unfoldable pub turn_verdict : ℕ → ℕ → Verdict
-  turn_verdict u v = refuse_if (cannot_flip (rows n t) (min u v) (max u v)) CannotFlip Accepted
+  turn_verdict u v = refuse_if (cannot_flip (rows n t) (min u v) (max u v)) CannotFlip (Ok tt)
 
   -- 16 and 10 of a new vertex: its number, and its rows in the tables
   unfoldable pub new_verdict : List ℤ → Verdict
-  new_verdict ps = refuse_if (no_number (rows n t)) RingFull (refuse_if (short_tables (suc n) t ps) NoRoom Accepted)
+  new_verdict ps = refuse_if (no_number (rows n t)) RingFull (refuse_if (short_tables (suc n) t ps) NoRoom (Ok tt))
 
 -- ---- the three calls
 

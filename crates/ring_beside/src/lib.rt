@@ -7,39 +7,39 @@ ghost use Rattle.ring_beside.specs.Beside.{after_in, before_in};
 use mesh::limits::Vertex;
 use rings::ring::{place_after, place_before, seek};
 
-// A vertex and the place in the ring where it stands, or that there is none.
+// A vertex and the place in the ring where it stands.
 #[derive(Clone, Copy)]
-pub enum Beside {
-    At { vertex: Vertex, place: usize },
-    Absent,
+pub struct Beside {
+    pub vertex: Vertex,
+    pub place: usize,
 }
 
 // What follows x.
-pub fn after_in(ring: &[Vertex], x: usize) -> Beside
+pub fn after_in(ring: &[Vertex], x: usize) -> Option<Beside>
     ensures { result ≡ after_in ring.now x }
 {
     let i = seek(ring, x);
     if i < ring.len() {
         let place = place_after(ring.len(), i);
-        return Beside::At {
+        return Some(Beside {
             vertex: ring[place],
-            place: place,
-        };
+            place,
+        });
     }
-    Beside::Absent
+    None
 }
 
 // What precedes x.
-pub fn before_in(ring: &[Vertex], x: usize) -> Beside
+pub fn before_in(ring: &[Vertex], x: usize) -> Option<Beside>
     ensures { result ≡ before_in ring.now x }
 {
     let i = seek(ring, x);
     if i < ring.len() {
         let place = place_before(ring.len(), i);
-        return Beside::At {
+        return Some(Beside {
             vertex: ring[place],
-            place: place,
-        };
+            place,
+        });
     }
-    Beside::Absent
+    None
 }

@@ -13,7 +13,6 @@ use Rattle.mesh.specs.Mesh.{Proper}
 use Rattle.mesh.proofs.Checked.{proper_of}
 use Rattle.mesh.proofs.First.{true_not_false}
 use Rattle.rings.specs.Table.{Lent, valence_at, ring_of, rows}
-use Rattle.rings.specs.declared.Verdict.TheVariants.{Accepted}
 use Rattle.rings.proofs.Rows.{rows_ring, row_length, improper_row_lem}
 use Rattle.rings.proofs.Verdicts.{if_accepted, then_accepted}
 use Rattle.ring_row.specs.Edit.{Edit}
@@ -22,20 +21,21 @@ use Rattle.ring_edit.specs.Calls.{make_edit, erase_edit, replace_edit, insert_ve
 use Rattle.ring_edit.specs.AnyEdit.{Call, Make, Erase, Replace, InsertAfter, InsertBefore, edit_of}
 use Rattle.ring_judge.proofs.Judged.{tabled, called, entered, made}
 use Rattle.ring_edit.proofs.ProperLists.{alone, same_proper, made_proper, part_proper, more_proper, erase_part, replace_more, after_more, before_more, free_entry}
+use Rattle.std.specs.Prelude.{Ok}
 
 module _ (n : ℕ) (t : Lent) (v : ℕ) where
   pub record Fair (e : Edit) : Type 0 where
-    pub tables : Accepted ≡ e.verdict → Accepted ≡ table_verdict n t v
-    pub proper : Accepted ≡ e.verdict → Proper (alone n e.ring) v
+    pub tables : (Ok tt) ≡ e.verdict → (Ok tt) ≡ table_verdict n t v
+    pub proper : (Ok tt) ≡ e.verdict → Proper (alone n e.ring) v
     pub idle : e.effect ≡ false → e.ring ≡ ring_of t v
 
-  old_proper : Accepted ≡ call_verdict n t v → Proper (alone n (ring_of t v)) v
+  old_proper : (Ok tt) ≡ call_verdict n t v → Proper (alone n (ring_of t v)) v
   unfolding rows
   old_proper h =
       let c = called n t v h in
       same_proper (rows n t) (alone n (ring_of t v)) v refl (rows_ring n t v (tabled n t v c.tables).below) (proper_of (rows n t) v (improper_row_lem n t v c.proper).1)
 
-  old_long : Accepted ≡ call_verdict n t v → length (ring_of t v) ≡ valence_at t v
+  old_long : (Ok tt) ≡ call_verdict n t v → length (ring_of t v) ≡ valence_at t v
   old_long h = row_length t v (called n t v h).row
 
   erase_fair : (x : ℕ) → Fair (erase_edit n t v x)
@@ -48,7 +48,7 @@ module _ (n : ℕ) (t : Lent) (v : ℕ) where
   }
 
   -- a list that has only x besides the old ring
-  entry_proper : (x : ℕ) → Accepted ≡ entry_verdict n t v x → (r : List ℕ) → length r ≤ 32 → ((y : ℕ) → times y r ≤ bit (eqb y x) + times y (ring_of t v)) → Proper (alone n r) v
+  entry_proper : (x : ℕ) → (Ok tt) ≡ entry_verdict n t v x → (r : List ℕ) → length r ≤ 32 → ((y : ℕ) → times y r ≤ bit (eqb y x) + times y (ring_of t v)) → Proper (alone n r) v
   unfolding taken
   entry_proper x h r k f =
       let e = entered n t v x h in
@@ -65,11 +65,11 @@ module _ (n : ℕ) (t : Lent) (v : ℕ) where
   }
 
   -- an inserting that was accepted: x may come in, and there is room where a is there
-  inserted : (a x : ℕ) → Accepted ≡ insert_verdict n t v a x → (Accepted ≡ entry_verdict n t v x) × (has a (ring_of t v) && leb 32 (valence_at t v) ≡ false)
+  inserted : (a x : ℕ) → (Ok tt) ≡ insert_verdict n t v a x → ((Ok tt) ≡ entry_verdict n t v x) × (has a (ring_of t v) && leb 32 (valence_at t v) ≡ false)
   unfolding insert_verdict
   inserted a x h = let b = then_accepted (entry_verdict n t v x) _ (sym h) in (sym b.0, (if_accepted _ _ _ b.1).0)
 
-  old_most : (x : ℕ) → Accepted ≡ entry_verdict n t v x → (length (ring_of t v) ≤ valence_at t v) × (valence_at t v ≤ 32)
+  old_most : (x : ℕ) → (Ok tt) ≡ entry_verdict n t v x → (length (ring_of t v) ≤ valence_at t v) × (valence_at t v ≤ 32)
   old_most x h = let c = (entered n t v x h).call in let l = old_long c in (omega arith, (called n t v c).most)
 
   after_fair : (a x : ℕ) → Fair (insert_after_edit n t v a x)

@@ -10,14 +10,14 @@ use lib.ListN.{length}
 use Rattle.mesh.specs.Limits.{most_valence}
 use Rattle.rings.specs.Table.{Lent, lent, valence_at, ring_of}
 use Rattle.rings.specs.Verdict.{after}
-use Rattle.rings.specs.declared.Verdict.{Verdict}
-use Rattle.rings.specs.declared.Verdict.TheVariants.{Accepted, Refused}
 use Rattle.ring_row.specs.Places.{Editable}
 use Rattle.ring_row.specs.Edit.{Edit, valences_with, rings_with, valences_after, rings_after}
 use Rattle.ring_row.proofs.OneRow.{OneRow, other_ring, written_one_row}
 use Rattle.ring_edit.specs.AnyEdit.{Call, edit_of}
 use Rattle.ring_edit.proofs.Tables.{tabled_editable}
 use Rattle.ring_edit.proofs.AcceptedEdits.{fair}
+use Rattle.rings.specs.Refusal.{Verdict}
+use Rattle.std.specs.Prelude.{Ok, Err}
 
 module _ (t : Lent) (v : ℕ) where
   none_written : OneRow t v t
@@ -29,15 +29,15 @@ module _ (t : Lent) (v : ℕ) where
   effect_one_row true ring g = written_one_row t v g.0 ring g.1
   effect_one_row false ring g = none_written
 
-  edit_one_row : (e : Edit) → (Accepted ≡ e.verdict → Editable t v × (length e.ring ≤ most_valence))
+  edit_one_row : (e : Edit) → ((Ok tt) ≡ e.verdict → Editable t v × (length e.ring ≤ most_valence))
       → OneRow t v (lent (valences_after e t.valences v) (rings_after e t.rings v))
   unfolding valences_after rings_after after
   edit_one_row e h = go e.verdict h
     where
-      go : (w : Verdict) → (Accepted ≡ w → Editable t v × (length e.ring ≤ most_valence))
+      go : (w : Verdict) → ((Ok tt) ≡ w → Editable t v × (length e.ring ≤ most_valence))
           → OneRow t v (lent (after w (valences_with e.effect t.valences v e.ring) t.valences) (after w (rings_with e.effect t.rings v e.ring) t.rings))
-      go Accepted g = effect_one_row e.effect e.ring (g refl)
-      go (Refused r) g = none_written
+      go (Ok u) g = effect_one_row e.effect e.ring (g refl)
+      go (Err r) g = none_written
 
 module _ (n : ℕ) (t : Lent) (v : ℕ) (k : Call) where
   -- the theorem

@@ -8,7 +8,6 @@ use Prim.Native.Nat.{ℕ, ◌<◌}
 use Rattle.mesh.specs.Mesh.{Proper}
 use Rattle.rings.specs.Table.{Lent, lent, ring_of, rows}
 use Rattle.rings.specs.Verdict.{after}
-use Rattle.rings.specs.declared.Verdict.TheVariants.{Accepted}
 use Rattle.rings.proofs.Rows.{rows_ring}
 use Rattle.ring_row.specs.Places.{Editable}
 use Rattle.ring_row.specs.Edit.{Edit, valences_with, rings_with, valences_after, rings_after}
@@ -18,6 +17,7 @@ use Rattle.ring_judge.proofs.Judged.{tabled}
 use Rattle.ring_edit.proofs.Tables.{tabled_editable}
 use Rattle.ring_edit.proofs.ProperLists.{alone, same_proper}
 use Rattle.ring_edit.proofs.AcceptedEdits.{fair}
+use Rattle.std.specs.Prelude.{Ok}
 
 module _ (t : Lent) (v : ℕ) where
   effect_ring : (effect : Bool) (ring : List ℕ) → Editable t v → (effect ≡ false → ring ≡ ring_of t v)
@@ -26,12 +26,12 @@ module _ (t : Lent) (v : ℕ) where
   effect_ring true ring ed idle = written_ring t v ed ring
   effect_ring false ring ed idle = sym (idle refl)
 
-  edited_ring : (e : Edit) → Editable t v → (e.effect ≡ false → e.ring ≡ ring_of t v) → Accepted ≡ e.verdict
+  edited_ring : (e : Edit) → Editable t v → (e.effect ≡ false → e.ring ≡ ring_of t v) → (Ok tt) ≡ e.verdict
       → ring_of (lent (valences_after e t.valences v) (rings_after e t.rings v)) v ≡ e.ring
   unfolding valences_after rings_after after
   edited_ring e ed idle h = rw (← h) (effect_ring e.effect e.ring ed idle)
 
-module _ (n : ℕ) (t : Lent) (v : ℕ) (k : Call) (accepted : (edit_of n t v k).verdict ≡ Accepted) where
+module _ (n : ℕ) (t : Lent) (v : ℕ) (k : Call) (accepted : (edit_of n t v k).verdict ≡ (Ok tt)) where
   -- the ring of v is what the edit says
   pub ring_after : let e = edit_of n t v k in ring_of (lent (valences_after e t.valences v) (rings_after e t.rings v)) v ≡ e.ring
   ring_after =

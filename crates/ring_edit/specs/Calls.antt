@@ -1,17 +1,16 @@
 -- To be believed.
 -- The ring edits: what each judges, whether it has an effect, and what it makes of v's ring (document 01, "Ring rules").
 -- Assumes nothing.
-use Rattle.std.specs.Prelude.{true, ◌&&◌, List, ℕ, leb}
+use Rattle.std.specs.Prelude.{true, ◌&&◌, List, ℕ, leb, Ok}
 use Rattle.mesh.specs.Limits.{most_valence}
 use Rattle.mesh.specs.Ring.{has}
 use Rattle.mesh.specs.Edits.{erase, replace, insert_after, insert_before}
 use Rattle.rings.specs.Table.{Lent, valence_at, ring_of}
 use Rattle.rings.specs.Verdict.{refuse_if, and_then}
 use Rattle.rings.specs.declared.Refusal.TheVariants.{RingFull}
-use Rattle.rings.specs.declared.Verdict.{Verdict}
-use Rattle.rings.specs.declared.Verdict.TheVariants.{Accepted}
 use Rattle.ring_judge.specs.Judging.{call_verdict, make_verdict, entry_verdict}
 use Rattle.ring_row.specs.Edit.{Edit}
+use Rattle.rings.specs.Refusal.{Verdict}
 
 module _ (n : ℕ) (t : Lent) (v : ℕ) where
   -- make: the list, whatever v's ring was
@@ -28,7 +27,7 @@ module _ (n : ℕ) (t : Lent) (v : ℕ) where
 
   -- 16 comes last: a full ring refuses an insertion only where a is there
   unfoldable pub insert_verdict : ℕ → ℕ → Verdict
-  insert_verdict a x = and_then (entry_verdict n t v x) (refuse_if (has a (ring_of t v) && leb most_valence (valence_at t v)) RingFull Accepted)
+  insert_verdict a x = and_then (entry_verdict n t v x) (refuse_if (has a (ring_of t v) && leb most_valence (valence_at t v)) RingFull (Ok tt))
 
   -- insert x after a
   unfoldable pub insert_after_edit : ℕ → ℕ → Edit

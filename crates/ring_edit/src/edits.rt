@@ -5,11 +5,10 @@ ghost use Rattle.ring_edit.specs.Calls.{make_edit, erase_edit, replace_edit, ins
 ghost use Rattle.ring_edit.specs.Beside.{beside_edit};
 ghost use Rattle.ring_row.specs.Edit.{valences_after, rings_after};
 
-use mesh::Place;
 use mesh::limits::Vertex;
 use ring_judge::judge::{judge_call, judge_entry, judge_make};
 use ring_row::places::{erase_at, insert_at, place_in, replace_at, write_ring};
-use rings::Verdict;
+use rings::Refusal;
 
 // Makes v's ring the list.
 pub fn make(
@@ -18,16 +17,14 @@ pub fn make(
     count: usize,
     v: usize,
     list: &[Vertex],
-) -> Verdict
+) -> Result<(), Refusal>
     ensures value { result ≡ (make_edit count (lent valences.old rings.old) v list.now).verdict }
     ensures rings_after { rings.new ≡ rings_after (make_edit count (lent valences.old rings.old) v list.now) rings.old v }
     ensures valences_after { valences.new ≡ valences_after (make_edit count (lent valences.old rings.old) v list.now) valences.old v }
 {
-    if let Verdict::Refused(r) = judge_make(valences, rings, count, v, list) {
-        return Verdict::Refused(r);
-    }
+    judge_make(valences, rings, count, v, list)?;
     write_ring(valences, rings, v, list);
-    Verdict::Accepted
+    Ok(())
 }
 
 // Erases x from v's ring; no effect where x is absent.
@@ -37,19 +34,17 @@ pub fn erase(
     count: usize,
     v: usize,
     x: usize,
-) -> Verdict
+) -> Result<(), Refusal>
     ensures value { result ≡ (erase_edit count (lent valences.old rings.old) v x).verdict }
     ensures rings_after { rings.new ≡ rings_after (erase_edit count (lent valences.old rings.old) v x) rings.old v }
     ensures valences_after { valences.new ≡ valences_after (erase_edit count (lent valences.old rings.old) v x) valences.old v }
 {
-    if let Verdict::Refused(r) = judge_call(valences, rings, count, v) {
-        return Verdict::Refused(r);
-    }
-    let Place::At(i) = place_in(valences, rings, v, x) else {
-        return Verdict::Accepted;
+    judge_call(valences, rings, count, v)?;
+    let Some(i) = place_in(valences, rings, v, x) else {
+        return Ok(());
     };
     erase_at(valences, rings, v, i);
-    Verdict::Accepted
+    Ok(())
 }
 
 // Puts x in the place of a in v's ring; no effect where a is absent.
@@ -60,19 +55,17 @@ pub fn replace(
     v: usize,
     a: usize,
     x: usize,
-) -> Verdict
+) -> Result<(), Refusal>
     ensures value { result ≡ (replace_edit count (lent valences.old rings.old) v a x).verdict }
     ensures rings_after { rings.new ≡ rings_after (replace_edit count (lent valences.old rings.old) v a x) rings.old v }
     ensures valences_after { valences.new ≡ valences_after (replace_edit count (lent valences.old rings.old) v a x) valences.old v }
 {
-    if let Verdict::Refused(r) = judge_entry(valences, rings, count, v, x) {
-        return Verdict::Refused(r);
-    }
-    let Place::At(i) = place_in(valences, rings, v, a) else {
-        return Verdict::Accepted;
+    judge_entry(valences, rings, count, v, x)?;
+    let Some(i) = place_in(valences, rings, v, a) else {
+        return Ok(());
     };
     replace_at(valences, rings, v, i, x);
-    Verdict::Accepted
+    Ok(())
 }
 
 // Inserts x so many places behind a's own in v's ring; no effect where a is absent.
@@ -84,17 +77,15 @@ fn insert_beside(
     a: usize,
     x: usize,
     behind: usize,
-) -> Verdict
+) -> Result<(), Refusal>
     requires { behind ≤ 1 }
     ensures value { result ≡ (beside_edit count (lent valences.old rings.old) v a x behind).verdict }
     ensures rings_after { rings.new ≡ rings_after (beside_edit count (lent valences.old rings.old) v a x behind) rings.old v }
     ensures valences_after { valences.new ≡ valences_after (beside_edit count (lent valences.old rings.old) v a x behind) valences.old v }
 {
-    if let Verdict::Refused(r) = judge_entry(valences, rings, count, v, x) {
-        return Verdict::Refused(r);
-    }
-    let Place::At(i) = place_in(valences, rings, v, a) else {
-        return Verdict::Accepted;
+    judge_entry(valences, rings, count, v, x)?;
+    let Some(i) = place_in(valences, rings, v, a) else {
+        return Ok(());
     };
     insert_at(valences, rings, v, behind + i, x)
 }
@@ -107,7 +98,7 @@ pub fn insert_after(
     v: usize,
     a: usize,
     x: usize,
-) -> Verdict
+) -> Result<(), Refusal>
     ensures value { result ≡ (insert_after_edit count (lent valences.old rings.old) v a x).verdict }
     ensures rings_after { rings.new ≡ rings_after (insert_after_edit count (lent valences.old rings.old) v a x) rings.old v }
     ensures valences_after { valences.new ≡ valences_after (insert_after_edit count (lent valences.old rings.old) v a x) valences.old v }
@@ -123,7 +114,7 @@ pub fn insert_before(
     v: usize,
     a: usize,
     x: usize,
-) -> Verdict
+) -> Result<(), Refusal>
     ensures value { result ≡ (insert_before_edit count (lent valences.old rings.old) v a x).verdict }
     ensures rings_after { rings.new ≡ rings_after (insert_before_edit count (lent valences.old rings.old) v a x) rings.old v }
     ensures valences_after { valences.new ≡ valences_after (insert_before_edit count (lent valences.old rings.old) v a x) valences.old v }

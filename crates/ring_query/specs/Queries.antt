@@ -1,30 +1,33 @@
 -- To be believed.
 -- The queries of one vertex's ring (document 01, "Ring rules"): they judge as an erase does, and they write nothing.
 -- Assumes nothing.
-use Rattle.std.specs.Prelude.{Bool, cond, ℕ}
+use Rattle.std.specs.Prelude.{Bool, cond, ℕ, Result, Ok, Err}
+use Rattle.std.specs.declared.option.Option.{Option}
+use Rattle.std.specs.declared.option.Option.TheVariants.{Some, None}
+use Rattle.rings.specs.declared.Refusal.{Refusal}
 use Rattle.mesh.specs.Ring.{has, next, prev}
 use Rattle.rings.specs.Table.{Lent, valence_at, ring_of}
 use Rattle.rings.specs.Verdict.{with_amount}
 use Rattle.ring_judge.specs.Judging.{call_verdict}
-use Rattle.rings.specs.declared.Verdict.{Verdict}
-use Rattle.rings.specs.declared.Verdict.TheVariants.{Accepted, Refused}
-use Rattle.rings.specs.declared.Amount.{Amount}
-use Rattle.ring_query.specs.declared.Answer.{Answer}
-use Rattle.ring_query.specs.declared.Answer.TheVariants as answer
-use Rattle.ring_query.specs.declared.Answer.TheVariants.{Yes, No}
-use Rattle.ring_query.specs.declared.Neighbour.{Neighbour}
-use Rattle.ring_query.specs.declared.Neighbour.TheVariants as neighbour
-use Rattle.ring_query.specs.declared.Neighbour.TheVariants.{Vertex, Missing}
+use Rattle.rings.specs.Refusal.{Amount, Verdict}
+
+-- is x there
+abbrev pub Answer : Type 0
+Answer = Result Bool Refusal
+
+-- which vertex is next to x, if x is there
+abbrev pub Neighbour : Type 0
+Neighbour = Result (Option ℕ) Refusal
 
 -- yes or no, where the call is accepted
 unfoldable pub with_answer : Verdict → Bool → Answer
-with_answer Accepted b = cond b Yes No
-with_answer (Refused r) b = answer.Refused r
+with_answer (Ok u) b = Ok b
+with_answer (Err r) b = Err r
 
 -- the vertex x or none, where the call is accepted
 unfoldable pub with_neighbour : Verdict → Bool → ℕ → Neighbour
-with_neighbour Accepted b x = cond b (Vertex x) Missing
-with_neighbour (Refused r) b x = neighbour.Refused r
+with_neighbour (Ok u) b x = Ok (cond b (Some x) None)
+with_neighbour (Err r) b x = Err r
 
 module _ (n : ℕ) (t : Lent) (v : ℕ) where
   -- the valence of v

@@ -14,20 +14,20 @@ use Rattle.rings.specs.Table.{Lent, valence_at, put, ring_of, padded}
 use Rattle.rings.specs.Verdict.{refuse_if, after}
 use Rattle.rings.specs.declared.Refusal.{Refusal}
 use Rattle.rings.specs.declared.Refusal.TheVariants.{RingFull}
-use Rattle.rings.specs.declared.Verdict.TheVariants.{Accepted, Refused}
 use Rattle.rings.proofs.Rows.{row_length}
 use Rattle.rings.proofs.Tables.{length_padded}
 use Rattle.ring_row.specs.Places.{Editable, open_edit}
 use Rattle.ring_row.specs.Edit.{Edit, valences_with, rings_with, valences_after, rings_after}
+use Rattle.std.specs.Prelude.{Ok, Err}
 
 -- ---- what a call says of the tables, by its outcome
 
 module _ (t : Lent) (v : ℕ) (e : Edit) where
-  pub edit_refused : (r : Refusal) → Refused r ≡ e.verdict → (t.rings ≡ rings_after e t.rings v) × (t.valences ≡ valences_after e t.valences v)
+  pub edit_refused : (r : Refusal) → Err r ≡ e.verdict → (t.rings ≡ rings_after e t.rings v) × (t.valences ≡ valences_after e t.valences v)
   unfolding rings_after valences_after after
   edit_refused r h = (rw (← h), rw (← h))
 
-  module _ (h : Accepted ≡ e.verdict) where
+  module _ (h : (Ok tt) ≡ e.verdict) where
     pub edit_idle : e.effect ≡ false → (t.rings ≡ rings_after e t.rings v) × (t.valences ≡ valences_after e t.valences v)
     unfolding rings_after valences_after after rings_with valences_with
     edit_idle q = (rw (← h, q), rw (← h, q))
@@ -78,7 +78,7 @@ module _ (t : Lent) (v : ℕ) (ed : Editable t v) (most : valence_at t v ≤ 32)
     valence_kept x = sym (ap (set t.valences v) (length-set (ring_of t v) i x ∙ ring_long) ∙ set-get_or t.valences v 0)
 
     pub at_opened : (x : ℕ) → i ≤ valence_at t v → valence_at t v < 32 → (row : List ℕ) → row ≡ padded (opened (take (valence_at t v) (take (v * 32 + 32 - v * 32) (drop (v * 32) t.rings))) i x)
-        → (Accepted ≡ (open_edit t v i x).verdict)
+        → ((Ok tt) ≡ (open_edit t v i x).verdict)
         × ((put_mid (v * 32) (v * 32 + 32 - v * 32) t.rings row ≡ rings_after (open_edit t v i x) t.rings v) × (set t.valences v (valence_at t v + 1) ≡ valences_after (open_edit t v i x) t.valences v))
     unfolding open_edit refuse_if
     at_opened x h room row q =
@@ -86,9 +86,9 @@ module _ (t : Lent) (v : ℕ) (ed : Editable t v) (most : valence_at t v ≤ 32)
         let w =
         row_written t v (opened (ring_of t v) i x) (valence_at t v + 1) (omega (arith, opened_length (ring_of t v) i x)) (omega arith) row
         (q ∙ ap (λ (r : List ℕ). padded (opened r i x)) front) in
-        let e : Accepted ≡ (open_edit t v i x).verdict = rw (lt-leb 32 (valence_at t v) room) in
+        let e : (Ok tt) ≡ (open_edit t v i x).verdict = rw (lt-leb 32 (valence_at t v) room) in
         (e, edit_done t v (open_edit t v i x) e refl (opened (ring_of t v) i x) refl _ _ w.0 w.1)
 
-    pub at_full : (x : ℕ) → 32 ≤ valence_at t v → (Refused RingFull ≡ (open_edit t v i x).verdict) × ((t.rings ≡ rings_after (open_edit t v i x) t.rings v) × (t.valences ≡ valences_after (open_edit t v i x) t.valences v))
+    pub at_full : (x : ℕ) → 32 ≤ valence_at t v → (Err RingFull ≡ (open_edit t v i x).verdict) × ((t.rings ≡ rings_after (open_edit t v i x) t.rings v) × (t.valences ≡ valences_after (open_edit t v i x) t.valences v))
     unfolding open_edit refuse_if
-    at_full x h = let e : Refused RingFull ≡ (open_edit t v i x).verdict = rw (le-leb 32 (valence_at t v) h) in (e, edit_refused t v (open_edit t v i x) RingFull e)
+    at_full x h = let e : Err RingFull ≡ (open_edit t v i x).verdict = rw (le-leb 32 (valence_at t v) h) in (e, edit_refused t v (open_edit t v i x) RingFull e)

@@ -5,7 +5,7 @@ use Rattle.std.specs.Prelude.{Bool, cond, List, ℕ, ◌*◌, length, set}
 use Rattle.mesh.specs.Limits.{most_valence}
 use Rattle.rings.specs.Table.{put, padded}
 use Rattle.rings.specs.Verdict.{after}
-use Rattle.rings.specs.declared.Verdict.{Verdict}
+use Rattle.rings.specs.Refusal.{Verdict}
 
 -- an edit: what it answers, whether it has an effect, and the new ring
 pub record Edit : Type 0 where

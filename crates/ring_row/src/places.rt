@@ -9,14 +9,13 @@ ghost use Rattle.ring_row.specs.Edit.{valences_with, rings_with, valences_after,
 ghost use Rattle.ring_row.specs.Places.{Editable, open_edit};
 
 use super::row::{close_up, open_up, put_at, write};
-use mesh::Place;
 use mesh::limits::{MOST_VALENCE, Vertex};
+use rings::Refusal;
 use rings::ring::find;
 use rings::table::ring_of;
-use rings::{Refusal, Verdict};
 
 // Where x stands in v's ring.
-pub fn place_in(valences: &[u16], rings: &[Vertex], v: usize, x: usize) -> Place
+pub fn place_in(valences: &[u16], rings: &[Vertex], v: usize, x: usize) -> Option<usize>
     requires { HasRow (lent valences.now rings.now) v }
     ensures { result ≡ place_of x (ring_of (lent valences.now rings.now) v) }
 {
@@ -69,7 +68,7 @@ pub fn insert_at(
     v: usize,
     i: usize,
     x: usize,
-) -> Verdict
+) -> Result<(), Refusal>
     requires editable { Editable (lent valences.old rings.old) v }
     requires i_bound { i ≤ get_or valences.old v 0 }
     requires v_bound { get_or valences.old v 0 ≤ most_valence }
@@ -80,10 +79,10 @@ pub fn insert_at(
 {
     let n = valences[v] as usize;
     if MOST_VALENCE <= n {
-        return Verdict::Refused(Refusal::RingFull);
+        return Err(Refusal::RingFull);
     }
     let start = v * MOST_VALENCE;
     open_up(&mut rings[start..start + MOST_VALENCE], n, i, x as Vertex);
     valences[v] = (n + 1) as u16;
-    Verdict::Accepted
+    Ok(())
 }

@@ -6,6 +6,7 @@ ghost use Rattle.rings.specs.Table.{padded};
 
 use mesh::limits::Vertex;
 use rings::table::write_unused;
+use std::mem::replace;
 
 // Keeps the first n places and writes the null vertex into the others.
 pub fn pad(row: &mut [Vertex], n: usize)
@@ -23,10 +24,8 @@ pub fn close_up(row: &mut [Vertex], n: usize, i: usize)
     requires n_le_most_valence { n ≤ most_valence }
     ensures { row.new ≡ padded (closed (take n row.old) i) }
 {
-    let mut k = i;
-    while k + 1 < n {
+    for k in i..n - 1 {
         row[k] = row[k + 1];
-        k += 1;
     }
     pad(row, n - 1);
 }
@@ -39,12 +38,8 @@ pub fn open_up(row: &mut [Vertex], n: usize, i: usize, x: Vertex)
     ensures { row.new ≡ padded (opened (take n row.old) i x) }
 {
     let mut carry = x;
-    let mut k = i;
-    while k < n {
-        let shifted = row[k];
-        row[k] = carry;
-        carry = shifted;
-        k += 1;
+    for k in i..n {
+        carry = replace(&mut row[k], carry);
     }
     row[n] = carry;
     pad(row, n + 1);
@@ -67,10 +62,8 @@ pub fn write(row: &mut [Vertex], list: &[Vertex])
     requires list_len_bound { length list.now ≤ most_valence }
     ensures { row.new ≡ padded list.now }
 {
-    let mut k = 0;
-    while k < list.len() {
-        row[k] = list[k];
-        k += 1;
+    for (k, u) in list.iter().enumerate() {
+        row[k] = *u;
     }
     pad(row, list.len());
 }

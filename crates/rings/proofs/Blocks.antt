@@ -5,8 +5,9 @@ use mathlib.Core.List.{List, [], ◌∷◌, ◌++◌}
 use mathlib.Core.Logic.{⊎_elim}
 use native.Mathlib.Numerals.{add-one}
 use native.Mathlib.Omega.{arith}
-use lib.ListN.{length, get_or, take, set, replicate, length-replicate, replicate-append-replicate, get_or-append}
-use lib.Seq.{set_split, take-suc, length-take-le, ext_get_or}
+use lib.ListN.{length, get_or, take, drop, set, replicate, length-take, length-drop, length-replicate, replicate-append-replicate, get_or-replicate, get_or-append}
+use lib.Seq.{set_split, take-suc, length-take-le, drop-drop, ext_get_or}
+use borrow.Rule.Slice.PartMut.{put_mid}
 use Rattle.mesh.specs.Limits.{null_vertex}
 use Rattle.mesh.proofs.Lists.{lt_split}
 use Rattle.rings.specs.Table.{put, gather, padded}
@@ -20,6 +21,19 @@ put_one t a v h = rw (add-one a) (set_split t a v h)
 -- the place right behind a block
 pub put_next : (t : List ℕ) (a : ℕ) (b : List ℕ) {now : List ℕ} → now ≡ put t a b → a + length b < length t → (v : ℕ) → set now (a + length b) v ≡ put t a (b ++ (v ∷ []))
 put_next t a b q h v = rw q (put_one (put t a b) (a + length b) v (let e = length_put t a b (omega arith) in omega arith) ∙ put_more t a b (omega arith) (v ∷ []) (omega arith))
+
+-- a part of k places that was lent, and comes back written
+pub part_put : {A : Type 0} (t : List A) (a k : ℕ) (part : List A) → length part ≡ k → put_mid a k t part ≡ put t a part
+unfolding put
+part_put t a k part e = rw (drop-drop k a t, e)
+
+-- the same where a loop over the part wrote the same number into each of its places
+pub part_filled : (t : List ℕ) (a k x : ℕ) (part : List ℕ) {n : ℕ} → a + k ≤ length t → length part ≡ length (take k (drop a t)) → length (take k (drop a t)) ≤ n
+    → ((i : ℕ) → i < n → get_or part i 0 ≡ x) → (j : ℕ) → j ≡ k → put_mid a k t part ≡ put t a (replicate j x)
+part_filled t a k x part {n} fits e far same j q =
+    let l : length part ≡ j = e ∙ simp (length-take, length-drop) (omega arith) in
+    let f : part ≡ replicate j x = ext_get_or 0 part (replicate j x) (l ∙ sym (length-replicate j x)) (λ i h. same i (omega arith) ∙ sym (get_or-replicate j i x 0 (omega arith))) in
+    part_put t a k part (l ∙ q) ∙ ap (put t a) f
 
 -- a block over one that is not longer
 module _ {ℓ} {A : Type ℓ} (d : A) (t : List A) (a : ℕ) (b c : List A) (over : length b ≤ length c) (fits : a + length c ≤ length t) where

@@ -1,7 +1,7 @@
 -- To be believed.
 -- The check (sections "Ring rules" and "What comes back when we say no"): reasons 2, 1, 4, 5, 6, 7 in this order, each asked of all vertices before the next.
 -- Assumes nothing.
-use Rattle.std.specs.Prelude.{Bool, ◌||◌, List, ℕ, ◌*◌, ◌/◌, ltb, ℤ, length}
+use Rattle.std.specs.Prelude.{Bool, ◌||◌, List, ℕ, ◌*◌, ◌/◌, ltb, ℤ, length, Ok}
 use Rattle.mesh.specs.Limits.{least_count, most_count, least_valence, most_valence}
 use Rattle.mesh.specs.Mesh.{edges, faces}
 use Rattle.mesh.specs.Tests.{improper, one_sided, open_faced}
@@ -9,10 +9,7 @@ use Rattle.units.specs.Coordinate.{beyond}
 use Rattle.rings.specs.Table.{Lent, valence_at, rows, coordinate_at}
 use Rattle.rings.specs.Verdict.{refuse_if, refuse_at, with_counts}
 use Rattle.rings.specs.declared.Refusal.TheVariants.{TableTooShort, VertexCount, RingImproper, NotMutual, NotTriangle, ControlCoordinate}
-use Rattle.rings.specs.declared.Verdict.{Verdict}
-use Rattle.rings.specs.declared.Verdict.TheVariants.{Accepted}
-use Rattle.rings.specs.declared.Counted.{Counted}
-use Rattle.rings.specs.declared.Counted.TheVariants.{Counts}
+use Rattle.rings.specs.Refusal.{Counted, Verdict, counted}
 
 -- 2: the number of vertices is under 4 or over 1,024
 unfoldable pub bad_count : ℕ → Bool
@@ -47,11 +44,11 @@ check_verdict n t ps =
     (refuse_at (one_sided (rows n t)) n NotMutual
     (refuse_at (open_faced (rows n t)) n NotTriangle
     (refuse_at (beyond_at ps) n ControlCoordinate
-    Accepted)))))
+    (Ok tt))))))
 
 -- V, E and F of n vertices in a sound mesh, where s adds their valences
 unfoldable pub counts_of : ℕ → ℕ → Counted
-counts_of n s = Counts n (s / 2) (2 * (s / 2) / 3)
+counts_of n s = counted n (s / 2) (2 * (s / 2) / 3)
 
 -- what the check answers: V, E and F, or the refusal. It writes nothing
 unfoldable pub check_answer : ℕ → Lent → List ℤ → Counted

@@ -1,12 +1,29 @@
 -- To be believed.
 -- What every call answers on paper: a number, a place and values, as section "What comes back when we say no" has them.
 -- Assumes nothing.
-use Rattle.std.specs.Prelude.{ℕ}
+use Rattle.std.specs.Prelude.{ℕ, Result, Ok}
 use Rattle.rings.specs.declared.Refusal.{Refusal}
+use Rattle.rings.specs.declared.Counts.{Counts}
 use Rattle.rings.specs.declared.Refusal.TheVariants.{TableTooShort, VertexCount, NoSuchVertex, RingImproper, NotMutual}
 use Rattle.rings.specs.declared.Refusal.TheVariants.{NotTriangle, ControlCoordinate, LevelCount, LevelTooLarge, NoRoom}
 use Rattle.rings.specs.declared.Refusal.TheVariants.{StackAltered, TooManyMoves, NotFinite, OutOfReach, NeighbourTaken}
 use Rattle.rings.specs.declared.Refusal.TheVariants.{RingFull, FileLayout, NoEdgeOrFace, CannotFlip, BadText, OpenRing}
+
+-- what a ring edit answers: accepted, or why not
+abbrev pub Verdict : Type 0
+Verdict = Result (Unit {0}) Refusal
+
+-- what the check and refinement answer: V, E and F
+abbrev pub Counted : Type 0
+Counted = Result Counts Refusal
+
+-- what a call answers that gives one number
+abbrev pub Amount : Type 0
+Amount = Result ℕ Refusal
+
+-- V, E and F as an answer
+abbrev pub counted : ℕ → ℕ → ℕ → Counted
+counted v e f = Ok (record { v = v; e = e; f = f })
 
 -- number, place, and what the call gives: V, E and F, or one number in the first of the three
 pub record Paper : Type 0 where

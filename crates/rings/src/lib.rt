@@ -30,23 +30,10 @@ pub enum Refusal {
     OpenRing(usize),
 }
 
-// What a ring edit answers.
+// V, E and F of a mesh.
 #[derive(Clone, Copy)]
-pub enum Verdict {
-    Accepted,
-    Refused(Refusal),
-}
-
-// What the check and refinement answer.
-#[derive(Clone, Copy)]
-pub enum Counted {
-    Counts { v: usize, e: usize, f: usize },
-    Refused(Refusal),
-}
-
-// What a call answers that gives one number.
-#[derive(Clone, Copy)]
-pub enum Amount {
-    Of(usize),
-    Refused(Refusal),
+pub struct Counts {
+    pub v: usize,
+    pub e: usize,
+    pub f: usize,
 }

@@ -4,33 +4,23 @@ ghost use Rattle.mesh.specs.Search.{some};
 ghost use Rattle.mesh.specs.Ring.{has, place, place_of, place_after, place_before, follows};
 ghost use Rattle.mesh.specs.Tests.{bad_at};
 
-use mesh::Place;
 use mesh::limits::Vertex;
 
 // The first place of x in a ring, or the ring's length.
 pub fn seek(ring: &[Vertex], x: usize) -> usize
     ensures { result ≡ place x ring.now }
 {
-    let mut i = 0;
-    while i < ring.len() {
-        if ring[i] as usize == x {
-            return i;
-        }
-        i += 1;
-    }
-    i
+    ring.iter()
+        .position(|u| *u as usize == x)
+        .unwrap_or(ring.len())
 }
 
 // Where x stands.
-pub fn find(ring: &[Vertex], x: usize) -> Place
+pub fn find(ring: &[Vertex], x: usize) -> Option<usize>
     ensures { result ≡ place_of x ring.now }
 {
     let i = seek(ring, x);
-    if i < ring.len() {
-        Place::At(i)
-    } else {
-        Place::Absent
-    }
+    if i < ring.len() { Some(i) } else { None }
 }
 
 // Is x there?
@@ -62,14 +52,8 @@ pub fn place_before(n: usize, i: usize) -> usize
 pub fn follows_in(ring: &[Vertex], x: usize, y: usize) -> bool
     ensures { result ≡ follows ring.now x y }
 {
-    let mut i = 0;
-    while i < ring.len() {
-        if ring[i] as usize == x {
-            return ring[place_after(ring.len(), i)] as usize == y;
-        }
-        i += 1;
-    }
-    false
+    let i = seek(ring, x);
+    i < ring.len() && ring[place_after(ring.len(), i)] as usize == y
 }
 
 // Is the number at place i of v's ring no vertex, v itself, or a repeat?
@@ -78,25 +62,12 @@ pub fn bad_entry(ring: &[Vertex], v: usize, count: usize, i: usize) -> bool
     ensures { result ≡ bad_at count v ring.now i }
 {
     let u = ring[i] as usize;
-    if count <= u {
-        return true;
-    }
-    if u == v {
-        return true;
-    }
-    seek(ring, u) < i
+    count <= u || u == v || seek(ring, u) < i
 }
 
 // Has v's ring a bad place?
 pub fn has_bad(ring: &[Vertex], v: usize, count: usize) -> bool
     ensures { result ≡ some (bad_at count v ring.now) (length ring.now) }
 {
-    let mut i = 0;
-    while i < ring.len() {
-        if bad_entry(ring, v, count, i) {
-            return true;
-        }
-        i += 1;
-    }
-    false
+    (0..ring.len()).any(|i| bad_entry(ring, v, count, i))
 }

@@ -27,10 +27,8 @@ pub fn write_unused(rings: &mut [Vertex], row: usize, used: usize)
     ensures { rings.new ≡ put rings.old (row * most_valence + used) (replicate (most_valence - used) null_vertex) }
 {
     let a = row * MOST_VALENCE;
-    let mut k = used;
-    while k < MOST_VALENCE {
-        rings[a + k] = NULL_VERTEX;
-        k += 1;
+    for u in &mut rings[a + used..a + MOST_VALENCE] {
+        *u = NULL_VERTEX;
     }
 }
 
@@ -51,10 +49,7 @@ pub fn point_of(positions: &[i32], v: usize) -> Point
 pub fn is_bad_count(count: usize) -> bool
     ensures { result ≡ bad_count count }
 {
-    if count < LEAST_COUNT {
-        return true;
-    }
-    MOST_COUNT < count
+    count < LEAST_COUNT || MOST_COUNT < count
 }
 
 // Reason 1, for the two tables of the ring calls.
@@ -62,10 +57,7 @@ pub fn is_short_rings(valences: &[u16], rings: &[Vertex], count: usize) -> bool
     requires { count ≤ most_count }
     ensures { result ≡ short_rings count (lent valences.now rings.now) }
 {
-    if valences.len() < count {
-        return true;
-    }
-    rings.len() < count * MOST_VALENCE
+    valences.len() < count || rings.len() < count * MOST_VALENCE
 }
 
 // Reason 1, for all three tables.
@@ -73,10 +65,7 @@ pub fn is_short(valences: &[u16], rings: &[Vertex], positions: &[i32], count: us
     requires { count ≤ most_count }
     ensures { result ≡ short_tables count (lent valences.now rings.now) positions.now }
 {
-    if is_short_rings(valences, rings, count) {
-        return true;
-    }
-    positions.len() < count * 3
+    is_short_rings(valences, rings, count) || positions.len() < count * 3
 }
 
 // Is v's ring improper?
@@ -85,10 +74,7 @@ pub fn is_improper(valences: &[u16], rings: &[Vertex], count: usize, v: usize) -
     requires room { Room count (lent valences.now rings.now) }
     ensures { result ≡ improper_row count (lent valences.now rings.now) v }
 {
-    if MOST_VALENCE < valences[v] as usize {
-        return true;
-    }
-    has_bad(ring_of(valences, rings, v), v, count)
+    MOST_VALENCE < valences[v] as usize || has_bad(ring_of(valences, rings, v), v, count)
 }
 
 // The neighbour at place i of v's ring, in tables that are fit.

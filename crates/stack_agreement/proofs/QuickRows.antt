@@ -4,7 +4,6 @@ use mathlib.Core.Path.{◌≡◌, sym, ◌∙◌}
 use mathlib.Core.List.{List}
 use native.Mathlib.Omega.{arith}
 use lib.ListN.{length, take, drop, length-drop}
-use borrow.Author.Count.{below_more}
 use Rattle.mesh.specs.Limits.{most_vertices}
 use Rattle.mesh.specs.Mesh.{Mesh, edges}
 use Rattle.rings.specs.Table.{Lent, lent, valence_at, ring_of, rows}
@@ -13,10 +12,7 @@ use Rattle.rings.proofs.Rows.{rows_ring}
 use Rattle.loop_points.specs.Level.{Ready}
 use Rattle.loop_points.proofs.Mids.{ready_length}
 use Rattle.rings.proofs.LevelRows.{part_is}
-use Rattle.stack_agreement.specs.Agreement.{RowAgrees, RowsAgree}
-
-pub rows_none : {n end : ℕ} {t : Lent} → RowsAgree n end 0 t
-rows_none = record { row = λ p l. absurd (omega arith) }
+use Rattle.stack_agreement.specs.Agreement.{RowAgrees}
 
 module _ {n : ℕ} {t : Lent} (r : Ready n t) where
   abbrev M : Mesh
@@ -48,15 +44,6 @@ module _ {n : ℕ} {t : Lent} (r : Ready n t) where
       let c = r.room.rings in
       rw (part_is t.rings (n * 32) rings_within) (omega arith, (omega (arith, length-drop (n * 32) t.rings), (omega arith, b ∙ sym a)))
 
-  pub ascends_asks : {end : ℕ} → end ≡ n + edges M → (end - n ≤ most_vertices) × ((end - n) * 32 ≤ length (take (length t.rings - (n + n) * 32) (drop ((n + n) * 32) t.rings)))
-  ascends_asks {end} e =
-      let f = r.fits in
-      let c = r.room.rings in
-      rw (part_is t.rings ((n + n) * 32) (omega arith)) (omega arith, omega (arith, length-drop ((n + n) * 32) t.rings))
-
-  pub rows_more : {end p : ℕ} → RowsAgree n end p t → {row next : List ℕ} → row ≡ ring_of t p → next ≡ ring_of (lent t.valences (take (length t.rings - n * 32) (drop (n * 32) t.rings))) p
-      → RowAgrees row next (take (length t.rings - n * 32) (drop (n * 32) t.rings)) n end p → RowsAgree n end (p + 1) t
-  rows_more {end} {p} z {row} {next} a b h = record {
-    row = below_more (λ (k : ℕ). RowAgrees (ring_of t k) (ring_of (lent t.valences above) k) above n end k) p z.row
-        (rw (part_is t.rings (n * 32) rings_within) at (rw (a, b) at h));
-  }
+  pub row_agreed : {end p : ℕ} {row next : List ℕ} → row ≡ ring_of t p → next ≡ ring_of (lent t.valences (take (length t.rings - n * 32) (drop (n * 32) t.rings))) p
+      → RowAgrees row next (take (length t.rings - n * 32) (drop (n * 32) t.rings)) n end p → RowAgrees (ring_of t p) (ring_of (lent t.valences above) p) above n end p
+  row_agreed a b h = rw (part_is t.rings (n * 32) rings_within) at (rw (a, b) at h)

@@ -1,45 +1,26 @@
--- What a quick pass tells, loop by loop: nothing where it says no; and where misses are counted and there are none, all. Assumes nothing.
+-- What a quick pass tells, loop by loop: where misses are counted and there are none, all have what is asked for. Assumes nothing.
 use Prim.Native.Nat.{ℕ, zero, suc, ◌+◌, ◌-◌, ◌≤◌, ◌<◌}
 use mathlib.Core.Path.{◌≡◌, refl, ap, ◌∙◌}
-use mathlib.Core.Bool.{false}
 use mathlib.Core.List.{List}
 use mathlib.Core.Logic.{⊎_elim}
 use native.Mathlib.Omega.{arith}
-use lib.ListN.{length, get_or, take, drop}
+use lib.ListN.{length, get_or}
 use borrow.Author.Count.{below_more}
 use Rattle.mesh.specs.Ring.{place_after, place_before}
 use Rattle.mesh.proofs.Lists.{lt_split}
 use Rattle.mesh.proofs.Places.{after_last, after_other, before_other}
-use Rattle.mesh.proofs.First.{true_not_false}
-use Rattle.stack_agreement.specs.Agreement.{Tells, NamesEdge, EdgeVertex, RowAgrees, edge_key, Ascends}
-
-pub no_tells : {X : Type 0} → Tells false X
-no_tells e = absurd (true_not_false e refl)
+use Rattle.stack_agreement.specs.Agreement.{EdgeVertex, RowAgrees, edge_key, Ascends}
 
 -- of the numbers below k, `misses` lack something: where that is 0, all of them have it
 pub record Missed (P : ℕ → Type 0) (misses k : ℕ) : Type 0 where
   pub few : misses ≤ k
   pub all : misses ≡ 0 → (j : ℕ) → j < k → P j
 
-module _ {P : ℕ → Type 0} where
-  pub missed_none : Missed P 0 0
-  missed_none = record { few = omega arith; all = λ e j l. absurd (omega arith) }
-
-  module _ {misses more k : ℕ} (t : Missed P misses k) where
-    pub missed_one : more ≡ misses + 1 → Missed P more (k + 1)
-    missed_one e = record { few = let f = t.few in omega arith; all = λ z. absurd (omega arith) }
-
-    pub missed_not : more ≡ misses → P k → Missed P more (k + 1)
-    missed_not e h = record { few = let f = t.few in omega arith; all = λ z. below_more P k (t.all (omega arith)) h }
-
 -- ---- the edges that rings name ascend so far, and stay below `least`
 
 pub record Climbing (rings : List ℕ) (least k : ℕ) : Type 0 where
   pub ascends : Ascends rings k
   pub less : (x : ℕ) → x < k → edge_key rings x < least
-
-climbing_none : {rings : List ℕ} → Climbing rings 0 0
-climbing_none = record { ascends = record { later = λ x y l h. absurd (omega arith) }; less = λ x l. absurd (omega arith) }
 
 climbing_more : {rings : List ℕ} {least k : ℕ} → Climbing rings least k → least ≤ edge_key rings k → Climbing rings (edge_key rings k + 1) (k + 1)
 climbing_more {rings} {least} {k} t h = record {
@@ -53,9 +34,6 @@ climbing_more {rings} {least} {k} t h = record {
 pub record Rising (rings : List ℕ) (falls least k : ℕ) : Type 0 where
   pub few : falls ≤ k
   pub climbing : falls ≡ 0 → Climbing rings least k
-
-pub rising_none : {rings : List ℕ} → Rising rings 0 0 0
-rising_none = record { few = omega arith; climbing = λ e. climbing_none }
 
 module _ {rings : List ℕ} {falls least k : ℕ} (t : Rising rings falls least k) {more : ℕ} where
   pub rising_fall : more ≡ falls + 1 → Rising rings more (edge_key rings k + 1) (k + 1)
@@ -95,10 +73,7 @@ module _ {row next above : List ℕ} {n end p : ℕ} where
     pub walked_all : 0 < length row → i ≡ length row - 1 → EdgeVertex above n end p (get_or row (length row - 1) 0) x before (get_or next 0 0) → RowAgrees row next above n end p
     walked_all l e h = record { place = λ j m. walked_place (get_or next 0 0) 0 (after_last (length row) i (omega arith)) refl (rw (← e) at h) j (omega arith) }
 
--- a row of six, place by place
-pub six_place : (l : List ℕ) → length l ≡ 6 → (i : ℕ) → i < 6 → i < length l
-six_place l e i h = rw e h
-
+-- a row of six
 pub six_agree : {row next above : List ℕ} {n end p : ℕ} → length row ≡ 6
     → EdgeVertex above n end p (get_or row 0 0) (get_or next 0 0) (get_or next 5 0) (get_or next 1 0)
     → EdgeVertex above n end p (get_or row 1 0) (get_or next 1 0) (get_or next 0 0) (get_or next 2 0)
@@ -117,8 +92,3 @@ six_agree {row} {next} {above} {n} {end} {p} e a b c d f g = record { place = λ
     go (suc (suc (suc (suc zero)))) l = f
     go (suc (suc (suc (suc (suc zero))))) l = g
     go (suc (suc (suc (suc (suc (suc i)))))) l = absurd (omega arith)
-
--- ---- the six places of a ring that are lent as a part
-
-pub names_part : (t : List ℕ) (a : ℕ) {p q before after : ℕ} → NamesEdge (take (a + 6 - a) (drop a t)) p q before after → NamesEdge (take 6 (drop a t)) p q before after
-names_part t a h = let e : a + 6 - a ≡ 6 = omega arith in rw e at h

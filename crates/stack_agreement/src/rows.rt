@@ -1,8 +1,8 @@
 // Does each old row of the next level agree with the rings of the new vertices that it names?
-ghost use Rattle.std.specs.Prelude.{◌≡◌, ◌+◌, ◌*◌, ◌≤◌, ◌<◌, length};
+ghost use Rattle.std.specs.Prelude.{◌≡◌, ◌+◌, ◌*◌, ◌≤◌, ◌<◌, length, drop};
 ghost use Rattle.mesh.specs.Limits.{most_valence, most_vertices};
 ghost use Rattle.mesh.specs.Mesh.{edges};
-ghost use Rattle.rings.specs.Table.{lent, rows};
+ghost use Rattle.rings.specs.Table.{lent, ring_of, rows};
 ghost use Rattle.loop_points.specs.Level.{Ready};
 ghost use Rattle.stack_agreement.specs.Agreement.{Tells, NamesEdge, EdgeVertex, RowAgrees, RowsAgree};
 
@@ -15,27 +15,10 @@ fn names_edge(ring: &[Vertex], p: Vertex, q: Vertex, before: Vertex, after: Vert
     ensures { Tells result (NamesEdge ring.now p q before after) }
 {
     if p < q {
-        if ring[0] != p {
-            return false;
-        }
-        if ring[1] != before {
-            return false;
-        }
-        if ring[3] != q {
-            return false;
-        }
-        return ring[5] == after;
+        ring[0] == p && ring[1] == before && ring[3] == q && ring[5] == after
+    } else {
+        ring[0] == q && ring[2] == after && ring[3] == p && ring[4] == before
     }
-    if ring[0] != q {
-        return false;
-    }
-    if ring[2] != after {
-        return false;
-    }
-    if ring[3] != p {
-        return false;
-    }
-    ring[4] == before
 }
 
 // Is x a new vertex, and does its ring name the edge p, q?
@@ -54,14 +37,8 @@ fn is_edge_vertex(
     ensures { Tells result (EdgeVertex above.now count end p q x before after) }
 {
     let v = x as usize;
-    if v < count {
-        return false;
-    }
-    if end <= v {
-        return false;
-    }
     let a = v * MOST_VALENCE;
-    names_edge(&above[a..a + 6], p, q, before, after)
+    count <= v && v < end && names_edge(&above[a..a + 6], p, q, before, after)
 }
 
 // Does the row of p on the next level name a new vertex for each edge of p?
@@ -82,15 +59,13 @@ fn row_agrees(
     let last = row.len() - 1;
     let mut before = next[last];
     let mut x = next[0];
-    let mut i = 0;
-    while i < last {
+    for i in 0..last {
         let after = next[i + 1];
         if !is_edge_vertex(above, count, end, p, row[i], x, before, after) {
             return false;
         }
         before = x;
         x = after;
-        i += 1;
     }
     is_edge_vertex(above, count, end, p, row[last], x, before, next[0])
 }
@@ -110,22 +85,12 @@ fn row_of_six_agrees(
     requires next_len { length next.now ≡ 6 }
     ensures { Tells result (RowAgrees row.now next.now above.now count end p) }
 {
-    if !is_edge_vertex(above, count, end, p, row[0], next[0], next[5], next[1]) {
-        return false;
-    }
-    if !is_edge_vertex(above, count, end, p, row[1], next[1], next[0], next[2]) {
-        return false;
-    }
-    if !is_edge_vertex(above, count, end, p, row[2], next[2], next[1], next[3]) {
-        return false;
-    }
-    if !is_edge_vertex(above, count, end, p, row[3], next[3], next[2], next[4]) {
-        return false;
-    }
-    if !is_edge_vertex(above, count, end, p, row[4], next[4], next[3], next[5]) {
-        return false;
-    }
-    is_edge_vertex(above, count, end, p, row[5], next[5], next[4], next[0])
+    is_edge_vertex(above, count, end, p, row[0], next[0], next[5], next[1])
+        && is_edge_vertex(above, count, end, p, row[1], next[1], next[0], next[2])
+        && is_edge_vertex(above, count, end, p, row[2], next[2], next[1], next[3])
+        && is_edge_vertex(above, count, end, p, row[3], next[3], next[2], next[4])
+        && is_edge_vertex(above, count, end, p, row[4], next[4], next[3], next[5])
+        && is_edge_vertex(above, count, end, p, row[5], next[5], next[4], next[0])
 }
 
 // The same for a row of any length.
@@ -144,9 +109,23 @@ fn any_row_agrees(
     ensures { Tells result (RowAgrees row.now next.now above.now count end p) }
 {
     if row.len() == 6 {
-        return row_of_six_agrees(row, next, above, count, end, p);
+        row_of_six_agrees(row, next, above, count, end, p)
+    } else {
+        row_agrees(row, next, above, count, end, p)
     }
-    row_agrees(row, next, above, count, end, p)
+}
+
+// Does the row of old vertex p?
+fn old_row_agrees(valences: &[u16], rings: &[Vertex], count: usize, end: usize, p: usize) -> bool
+    requires p_lt_count { p < count }
+    requires ready { Ready count (lent valences.now rings.now) }
+    requires end_value { end ≡ count + edges (rows count (lent valences.now rings.now)) }
+    ensures { Tells result (RowAgrees (ring_of (lent valences.now rings.now) p) (ring_of (lent valences.now (drop (count * most_valence) rings.now)) p) (drop (count * most_valence) rings.now) count end p) }
+{
+    let above = &rings[count * MOST_VALENCE..];
+    let row = ring_of(valences, rings, p);
+    let next = ring_of(valences, above, p);
+    any_row_agrees(row, next, above, count, end, p as Vertex)
 }
 
 // Does the row of every old vertex?
@@ -155,15 +134,5 @@ pub fn rows_agree(valences: &[u16], rings: &[Vertex], count: usize, end: usize) 
     requires end_value { end ≡ count + edges (rows count (lent valences.now rings.now)) }
     ensures { Tells result (RowsAgree count end count (lent valences.now rings.now)) }
 {
-    let above = &rings[count * MOST_VALENCE..];
-    let mut p = 0;
-    while p < count {
-        let row = ring_of(valences, rings, p);
-        let next = ring_of(valences, above, p);
-        if !any_row_agrees(row, next, above, count, end, p as Vertex) {
-            return false;
-        }
-        p += 1;
-    }
-    true
+    (0..count).all(|p| old_row_agrees(valences, rings, count, end, p))
 }

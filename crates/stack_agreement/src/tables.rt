@@ -14,15 +14,13 @@ pub fn ascends(rings: &[Vertex], k: usize) -> bool
 {
     let mut falls: usize = 0;
     let mut least: usize = 0;
-    let mut x = 0;
-    while x < k {
+    for x in 0..k {
         let a = x * MOST_VALENCE;
         let key = (rings[a] as usize) * PLACE_BOUND + (rings[a + 3] as usize);
         if key < least {
             falls += 1;
         }
         least = key + 1;
-        x += 1;
     }
     falls == 0
 }
@@ -34,12 +32,10 @@ pub fn has_same_valences(valences: &[u16], count: usize) -> bool
     ensures { Tells result (SameValences valences.now count count) }
 {
     let mut other: u16 = 0;
-    let mut v = 0;
-    while v < count {
+    for v in 0..count {
         if valences[count + v] != valences[v] {
             other += 1;
         }
-        v += 1;
     }
     other == 0
 }
@@ -52,12 +48,10 @@ pub fn has_six_valences(valences: &[u16], from: usize, k: usize) -> bool
     ensures { Tells result (SixValences valences.now from k) }
 {
     let mut other: u16 = 0;
-    let mut x = 0;
-    while x < k {
-        if valences[from + x] != 6 {
+    for n in &valences[from..from + k] {
+        if *n != 6 {
             other += 1;
         }
-        x += 1;
     }
     other == 0
 }
@@ -69,12 +63,10 @@ pub fn is_near_from(positions: &[i32], from: usize, k: usize) -> bool
     ensures { Tells result (NearFrom positions.now from k) }
 {
     let mut beyond: u32 = 0;
-    let mut i = 0;
-    while i < k {
-        if is_beyond(positions[from + i]) {
+    for c in &positions[from..from + k] {
+        if is_beyond(*c) {
             beyond += 1;
         }
-        i += 1;
     }
     beyond == 0
 }

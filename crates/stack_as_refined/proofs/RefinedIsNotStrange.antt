@@ -11,7 +11,6 @@ use Rattle.steps.specs.Sizes.{sizes_of}
 use Rattle.loop_step.specs.Refine.{level}
 use Rattle.units.specs.Coordinate.{InRange}
 use Rattle.rings.specs.Table.{lent, Lent, rows, coordinate_at}
-use Rattle.rings.specs.declared.Verdict.TheVariants.{Accepted}
 use Rattle.stack_judge.specs.Stack.{level_count, level_start}
 use Rattle.stack_judge.specs.StackVerdict.{stack_verdict}
 use Rattle.stack_judge.proofs.AcceptedStack.{stack_only}
@@ -24,8 +23,9 @@ use Rattle.stack_strange.proofs.Strange.{not_other}
 use Rattle.stack_strange.proofs.NextNumbers.{clear_all}
 use Rattle.stack_as_refined.proofs.StackRows.{strange_is, clear_stack}
 use Rattle.stack_as_refined.proofs.StackAsRefined.{of_near}
+use Rattle.std.specs.Prelude.{Ok}
 
-module _ (n levels : ℕ) (t : Lent) (ps : List ℤ) (accepted : Accepted ≡ stack_verdict n levels t ps) where
+module _ (n levels : ℕ) (t : Lent) (ps : List ℤ) (accepted : (Ok tt) ≡ stack_verdict n levels t ps) where
   abbrev M : Mesh
   M = rows n t
 

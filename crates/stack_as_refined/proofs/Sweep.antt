@@ -77,6 +77,11 @@ pub record Reached (n levels : ℕ) (t : Lent) (ps : List ℤ) (below : Level) (
   pub within : k ≤ levels
   pub sized : Sized (sizes_of n (rows n t)) k below
   pub clear : Clear (strange n levels t ps) (below.start + below.vertices)
+  -- the level is in the tables, and no count is large
+  pub valences : below.start + below.vertices ≤ length t.valences
+  pub rings : (below.start + below.vertices) * 32 ≤ length t.rings
+  pub points : (below.start + below.vertices) * 3 ≤ length ps
+  pub small : SmallLevel below
 
 module _ (n levels : ℕ) (t : Lent) (ps : List ℤ) (a : AcceptsStack n levels t ps) where
   abbrev sizes : Sizes
@@ -89,10 +94,36 @@ module _ (n levels : ℕ) (t : Lent) (ps : List ℤ) (a : AcceptsStack n levels 
   pub edges_told : (e : ℕ) → e ≡ edges (rows n t) → e ≤ edge_bound
   edges_told e q = omega (arith, edges_few)
 
+  module _ {below : Level} {k : ℕ} (w : k ≤ levels) (z : Sized sizes k below) where
+    level_ends : below.start + below.vertices ≡ level_start sizes (suc k)
+    level_ends = omega (arith, z.start, z.vertices, start_suc sizes k)
+
+    level_within : below.start + below.vertices ≤ stack_count sizes levels
+    unfolding stack_count
+    level_within = omega (arith, level_ends, starts_climb sizes (suc k) (suc levels) (omega arith))
+
+    reached : Clear (strange n levels t ps) (below.start + below.vertices) → Reached n levels t ps below k
+    reached c =
+        let h = level_within in
+        let u = a.room.valences in
+        let v = a.room.rings in
+        let p = a.points in
+        let high = a.high in
+        let f = edges_few in
+        record {
+          within = w;
+          sized = z;
+          clear = c;
+          valences = omega arith;
+          rings = omega arith;
+          points = omega arith;
+          small = sized_small (few_of n (rows n t) a.control.high (omega arith)) z (omega arith);
+        }
+
   pub reached_none : (e : ℕ) → e ≡ edges (rows n t) → (below : Level) → below ≡ level_at (closed_sizes n e) 0 → Reached n levels t ps below 0
   reached_none e q below g =
       let z = sized_ground (rows n t) g q in
-      record { within = omega arith; sized = z; clear = rw (z.start, z.vertices, start_none sizes, zero-add n) (control_clear n levels t ps) }
+      reached (omega arith) z (rw (z.start, z.vertices, start_none sizes, zero-add n) (control_clear n levels t ps))
 
   module _ {below : Level} {k : ℕ} (z : Reached n levels t ps below k) where
     abbrev base : ℕ
@@ -102,22 +133,7 @@ module _ (n levels : ℕ) (t : Lent) (ps : List ℤ) (a : AcceptsStack n levels 
     m = below.vertices
 
     ends : base + m ≡ level_start sizes (suc k)
-    ends = omega (arith, z.sized.start, z.sized.vertices, start_suc sizes k)
-
-    -- the level is in the tables
-    ends_within : base + m ≤ stack_count sizes levels
-    unfolding stack_count
-    ends_within = let w = z.within in omega (arith, ends, starts_climb sizes (suc k) (suc levels) (omega arith))
-
-    pub reached_room : (base + m ≤ length t.valences) × (((base + m) * 32 ≤ length t.rings) × ((base + m) * 3 ≤ length ps))
-    reached_room = let h = ends_within in let u = a.room.valences in let v = a.room.rings in let w = a.points in (omega arith, (omega arith, omega arith))
-
-    pub reached_small : SmallLevel below
-    reached_small =
-        let w = z.within in
-        let h = a.high in
-        let f = edges_few in
-        sized_small (few_of n (rows n t) a.control.high (omega arith)) z.sized (omega arith)
+    ends = level_ends z.within z.sized
 
     -- ---- the end
 
@@ -152,14 +168,18 @@ module _ (n levels : ℕ) (t : Lent) (ps : List ℤ) (a : AcceptsStack n levels 
 
       pub reached_asks : Ready m part × ((next.vertices ≡ m + edges (rows m part)) × ((m + (m + edges (rows m part))) * 3 ≤ length part_ps))
       reached_asks =
-          let r = reached_room in
+          let h = z.valences in
+          let u = z.rings in
+          let p = z.points in
           rw (part_is t.valences base (omega arith), part_is t.rings (base * 32) (omega arith), part_is ps (base * 3) (omega arith), reached_next.1, z.sized.vertices, z.sized.edges, z.sized.start)
           (part_ready n levels t ps a k l stands, (ap (λ (d : ℕ). size n t k + d) (sym (part_edges n levels t ps a k l stands)), part_points n levels t ps a k l stands))
 
       module _ (x : ℕ) (q : x ≡ first (strange_next m part part_ps) (m + edges (rows m part))) where
         searched : x ≡ first (strange_next (size n t k) (lent (valences_from n t k) (rings_from n t k)) (positions_from n t k ps)) (size n t (suc k))
         searched =
-            let r = reached_room in
+            let h = z.valences in
+            let u = z.rings in
+            let p = z.points in
             rw (← part_edges n levels t ps a k l stands)
             (rw (part_is t.valences base (omega arith), part_is t.rings (base * 32) (omega arith), part_is ps (base * 3) (omega arith), z.sized.vertices, z.sized.start) at q)
 
@@ -167,10 +187,7 @@ module _ (n levels : ℕ) (t : Lent) (ps : List ℤ) (a : AcceptsStack n levels 
         reached_strange h = rw next_sized.start (found_above n levels t ps a k l stands (rw ends at z.clear) x searched (rw next_sized.vertices at h))
 
         pub reached_more : next.vertices ≤ x → Reached n levels t ps next (k + 1)
-        reached_more h = record {
-          within = omega arith;
-          sized = sized_more z.sized up;
-          clear =
-              rw (next_sized.start, next_sized.vertices, ← start_suc sizes (suc k))
-              (none_above n levels t ps a k l stands (rw ends at z.clear) x searched (rw next_sized.vertices at h));
-        }
+        reached_more h =
+            reached (omega arith) (sized_more z.sized up)
+            (rw (next_sized.start, next_sized.vertices, ← start_suc sizes (suc k))
+            (none_above n levels t ps a k l stands (rw ends at z.clear) x searched (rw next_sized.vertices at h)))

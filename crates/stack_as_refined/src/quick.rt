@@ -25,19 +25,11 @@ fn is_as_refined(
     requires rings_in_bounds { (count + (count + edges (rows count (lent valences.now rings.now)))) * 3 ≤ length positions.now }
     ensures { Tells result (end ≡ first (strange_next count (lent valences.now rings.now) positions.now) (count + edges (rows count (lent valences.now rings.now)))) }
 {
-    if !has_same_valences(valences, count) {
-        return false;
-    }
-    if !has_six_valences(valences, count + count, end - count) {
-        return false;
-    }
-    if !is_near_from(positions, count * 3, end * 3) {
-        return false;
-    }
-    if !ascends(&rings[(count + count) * MOST_VALENCE..], end - count) {
-        return false;
-    }
-    rows_agree(valences, rings, count, end)
+    has_same_valences(valences, count)
+        && has_six_valences(valences, count + count, end - count)
+        && is_near_from(positions, count * 3, end * 3)
+        && ascends(&rings[(count + count) * MOST_VALENCE..], end - count)
+        && rows_agree(valences, rings, count, end)
 }
 
 // The first strange vertex of the next level, of `end` vertices, or their number.
@@ -54,7 +46,8 @@ pub fn first_strange_level(
     ensures { result ≡ first (strange_next count (lent valences.now rings.now) positions.now) (count + edges (rows count (lent valences.now rings.now))) }
 {
     if is_as_refined(valences, rings, positions, count, end) {
-        return end;
+        end
+    } else {
+        first_strange_next(valences, rings, positions, count)
     }
-    first_strange_next(valences, rings, positions, count)
 }

@@ -1,10 +1,9 @@
 // Levels 1 to L of a stack held against what refinement gives.
-ghost use Rattle.std.specs.Prelude.{◌≡◌};
+ghost use Rattle.std.specs.Prelude.{◌≡◌, Ok};
 ghost use Rattle.mesh.specs.Mesh.{edges};
 ghost use Rattle.mesh.specs.Search.{first};
 ghost use Rattle.rings.specs.Table.{lent, rows};
 ghost use Rattle.stack_judge.specs.StackVerdict.{stack_verdict};
-ghost use Rattle.rings.specs.declared.Verdict.TheVariants.{Accepted};
 ghost use Rattle.stack_strange.specs.Expected.{whole, strange};
 
 use super::quick::first_strange_level;
@@ -20,13 +19,12 @@ pub fn first_strange(
     levels: usize,
     edge_count: usize,
 ) -> usize
-    requires positions_value { stack_verdict count levels (lent valences.now rings.now) positions.now ≡ Accepted }
+    requires positions_value { stack_verdict count levels (lent valences.now rings.now) positions.now ≡ Ok tt }
     requires edge_count_value { edge_count ≡ edges (rows count (lent valences.now rings.now)) }
     ensures { result ≡ first (strange count levels (lent valences.now rings.now) positions.now) (whole count levels (lent valences.now rings.now) positions.now) }
 {
     let mut below = ground(count, edge_count);
-    let mut k = 0;
-    while k < levels {
+    for _ in 0..levels {
         let next = above(below);
         let base = below.start;
         let x = first_strange_level(
@@ -40,7 +38,6 @@ pub fn first_strange(
             return next.start + x;
         }
         below = next;
-        k += 1;
     }
     below.start + below.vertices
 }

@@ -13,8 +13,6 @@ use Rattle.steps.specs.Sizes.{sizes_of}
 use Rattle.rings.specs.Table.{Lent, rows}
 use Rattle.rings.specs.Check.{check_verdict}
 use Rattle.rings.specs.Verdict.{refuse_if, refuse_at, and_then}
-use Rattle.rings.specs.declared.Verdict.{Verdict}
-use Rattle.rings.specs.declared.Verdict.TheVariants.{Accepted}
 use Rattle.rings.specs.declared.Refusal.TheVariants.{LevelTooLarge, NoRoom}
 use Rattle.rings.proofs.Verdicts.{if_accepted, at_accepted, then_accepted, if_clear, at_clear}
 use Rattle.rings.proofs.Accepted.{accepted_only, accepted_all}
@@ -22,9 +20,11 @@ use Rattle.stack_judge.specs.Stack.{level_count, stack_count, bad_levels, too_la
 use Rattle.stack_judge.specs.Accepts.{AcceptsStack}
 use Rattle.stack_judge.specs.StackVerdict.{stack_verdict}
 use Rattle.stack_judge.proofs.Judged.{good_levels, level_fits, stack_room}
+use Rattle.rings.specs.Refusal.{Verdict}
+use Rattle.std.specs.Prelude.{Ok}
 
 module _ (n levels : ℕ) (t : Lent) (ps : List ℤ) where
-  pub stack_only : stack_verdict n levels t ps ≡ Accepted → AcceptsStack n levels t ps
+  pub stack_only : stack_verdict n levels t ps ≡ (Ok tt) → AcceptsStack n levels t ps
   unfolding stack_verdict
   stack_only h =
       let a = if_accepted (bad_levels levels) _ _ h in
@@ -41,12 +41,12 @@ module _ (n levels : ℕ) (t : Lent) (ps : List ℤ) where
         points = r.1;
       }
 
-  pub stack_all : AcceptsStack n levels t ps → stack_verdict n levels t ps ≡ Accepted
+  pub stack_all : AcceptsStack n levels t ps → stack_verdict n levels t ps ≡ (Ok tt)
   unfolding stack_verdict bad_levels too_large short_stack and_then
   stack_all a =
       let m : ℕ = stack_count (sizes_of n (rows n t)) levels in
       if_clear _ _ _ (or_both _ _ (le-ltb levels 1 a.low) (le-ltb 4 levels a.high))
-      ∙ ap (λ (w : Verdict). and_then w (refuse_at (too_large (sizes_of n (rows n t))) (suc levels) LevelTooLarge (refuse_if (short_stack m t ps) NoRoom Accepted)))
+      ∙ ap (λ (w : Verdict). and_then w (refuse_at (too_large (sizes_of n (rows n t))) (suc levels) LevelTooLarge (refuse_if (short_stack m t ps) NoRoom (Ok tt))))
       (accepted_all n t ps a.control)
       ∙ at_clear _ (suc levels) _ _ (λ k l. le-ltb most_vertices (level_count (sizes_of n (rows n t)) k) (a.fits k (omega arith)))
       ∙ if_clear _ _ _ (or_both _ _ (le-ltb (length t.valences) m a.room.valences) (or_both _ _ (le-ltb (length t.rings) (m * 32) a.room.rings) (le-ltb (length ps) (m * 3) a.points)))

@@ -4,7 +4,6 @@ use mathlib.Core.Bool.{Bool, true, false}
 use mathlib.Core.List.{List}
 use Prim.Native.Nat.{ℕ, suc, ◌*◌, ◌/◌, ◌≤◌, ◌<◌}
 use native.Mathlib.Omega.{arith}
-use lib.Dec.{ltb}
 use lib.IntN.{ℤ}
 use lib.ListN.{length}
 use borrow.Author.Tests.{lt-ltb, le-ltb, ltb-false}
@@ -17,7 +16,6 @@ use Rattle.rings.specs.Table.{Lent, valence_at, rows}
 use Rattle.rings.specs.Accepts.{Room, Accepts}
 use Rattle.rings.specs.Check.{check_verdict}
 use Rattle.rings.specs.Verdict.{refuse_if, refuse_at, and_then}
-use Rattle.rings.specs.declared.Verdict.TheVariants.{Accepted, Refused}
 use Rattle.rings.specs.declared.Refusal.{Refusal}
 use Rattle.rings.specs.declared.Refusal.TheVariants.{LevelCount, LevelTooLarge, NoRoom}
 use Rattle.rings.proofs.Rows.{fit_valences}
@@ -27,18 +25,11 @@ use Rattle.stack_judge.specs.declared.level.Level.{Level}
 use Rattle.stack_judge.specs.Stack.{level_count, stack_count, bad_levels, too_large, short_stack}
 use Rattle.stack_judge.specs.StackVerdict.{stack_verdict}
 use Rattle.stack_judge.proofs.Sizes.{Sized}
+use Rattle.std.specs.Prelude.{Ok, Err}
 
 -- ---- reason 8
 
 module _ (levels : ℕ) where
-  pub levels_low : levels < 1 → true ≡ bad_levels levels
-  unfolding bad_levels
-  levels_low h = rw (lt-ltb levels 1 h)
-
-  pub levels_rest : 1 ≤ levels → ltb 4 levels ≡ bad_levels levels
-  unfolding bad_levels
-  levels_rest h = rw (le-ltb levels 1 h)
-
   pub good_levels : bad_levels levels ≡ false → (1 ≤ levels) × (levels ≤ 4)
   unfolding bad_levels
   good_levels e = let a = or_false _ _ e in (ltb-false levels 1 a.0, ltb-false 4 levels a.1)
@@ -64,18 +55,6 @@ level_fits s k h = ltb-false most_vertices (level_count s k) h
 -- ---- reason 10
 
 module _ (n : ℕ) (t : Lent) (ps : List ℤ) where
-  pub short_first : length t.valences < n → true ≡ short_stack n t ps
-  unfolding short_stack
-  short_first h = rw (lt-ltb (length t.valences) n h)
-
-  pub short_second : n ≤ length t.valences → length t.rings < n * 32 → true ≡ short_stack n t ps
-  unfolding short_stack
-  short_second h g = rw (le-ltb (length t.valences) n h, lt-ltb (length t.rings) (n * 32) g)
-
-  pub short_third : n ≤ length t.valences → n * 32 ≤ length t.rings → ltb (length ps) (n * 3) ≡ short_stack n t ps
-  unfolding short_stack
-  short_third h g = rw (le-ltb (length t.valences) n h, le-ltb (length t.rings) (n * 32) g)
-
   pub stack_room : short_stack n t ps ≡ false → Room n t × (n * 3 ≤ length ps)
   unfolding short_stack
   stack_room e =
@@ -91,35 +70,35 @@ unfolding edges
 counted_edges n t ps a s e = e ∙ ap (λ (k : ℕ). k / 2) (fit_valences (accepted_fit n t ps (accepted_all n t ps a)))
 
 module _ (n levels : ℕ) (t : Lent) (ps : List ℤ) (b : Bool) (e : b ≡ bad_levels levels) where
-  pub stack_bad : b ≡ true → Refused LevelCount ≡ stack_verdict n levels t ps
+  pub stack_bad : b ≡ true → Err LevelCount ≡ stack_verdict n levels t ps
   unfolding stack_verdict
   stack_bad h = if_hit _ _ _ b e h
 
   module _ (h : b ≡ false) where
     past_levels : stack_verdict n levels t ps
         ≡ and_then (check_verdict n t ps)
-        (refuse_at (too_large (sizes_of n (rows n t))) (suc levels) LevelTooLarge (refuse_if (short_stack (stack_count (sizes_of n (rows n t)) levels) t ps) NoRoom Accepted))
+        (refuse_at (too_large (sizes_of n (rows n t))) (suc levels) LevelTooLarge (refuse_if (short_stack (stack_count (sizes_of n (rows n t)) levels) t ps) NoRoom (Ok tt)))
     unfolding stack_verdict
     past_levels = if_pass _ _ _ b e h
 
-    pub stack_check : (r : Refusal) → Refused r ≡ check_verdict n t ps → Refused r ≡ stack_verdict n levels t ps
+    pub stack_check : (r : Refusal) → Err r ≡ check_verdict n t ps → Err r ≡ stack_verdict n levels t ps
     unfolding and_then
     stack_check r a = rw (past_levels, ← a)
 
-    module _ (a : Accepted ≡ check_verdict n t ps) (m : ℕ) (q : m ≡ edges (rows n t)) (k : ℕ) (g : k ≡ first (too_large (closed_sizes n m)) (suc levels)) where
-      past_check : stack_verdict n levels t ps ≡ refuse_at (too_large (closed_sizes n m)) (suc levels) LevelTooLarge (refuse_if (short_stack (stack_count (closed_sizes n m) levels) t ps) NoRoom Accepted)
+    module _ (a : (Ok tt) ≡ check_verdict n t ps) (m : ℕ) (q : m ≡ edges (rows n t)) (k : ℕ) (g : k ≡ first (too_large (closed_sizes n m)) (suc levels)) where
+      past_check : stack_verdict n levels t ps ≡ refuse_at (too_large (closed_sizes n m)) (suc levels) LevelTooLarge (refuse_if (short_stack (stack_count (closed_sizes n m) levels) t ps) NoRoom (Ok tt))
       unfolding and_then faces
       past_check = rw (past_levels, ← a, ← q)
 
-      pub stack_large : k ≤ levels → Refused (LevelTooLarge k) ≡ stack_verdict n levels t ps
+      pub stack_large : k ≤ levels → Err (LevelTooLarge k) ≡ stack_verdict n levels t ps
       stack_large l = at_hit _ _ _ _ k g (omega arith) ∙ sym past_check
 
       module _ (f : levels < k) (w : ℕ) (p : w ≡ stack_count (closed_sizes n m) levels) (s : Bool) (z : s ≡ short_stack w t ps) where
-        past_large : stack_verdict n levels t ps ≡ refuse_if (short_stack w t ps) NoRoom Accepted
-        past_large = past_check ∙ at_pass _ _ _ _ k g f ∙ ap (λ (x : ℕ). refuse_if (short_stack x t ps) NoRoom Accepted) (sym p)
+        past_large : stack_verdict n levels t ps ≡ refuse_if (short_stack w t ps) NoRoom (Ok tt)
+        past_large = past_check ∙ at_pass _ _ _ _ k g f ∙ ap (λ (x : ℕ). refuse_if (short_stack x t ps) NoRoom (Ok tt)) (sym p)
 
-        pub stack_short : s ≡ true → Refused NoRoom ≡ stack_verdict n levels t ps
+        pub stack_short : s ≡ true → Err NoRoom ≡ stack_verdict n levels t ps
         stack_short y = if_hit _ _ _ s z y ∙ sym past_large
 
-        pub stack_accepted : s ≡ false → Accepted ≡ stack_verdict n levels t ps
+        pub stack_accepted : s ≡ false → (Ok tt) ≡ stack_verdict n levels t ps
         stack_accepted y = sym (past_large ∙ if_pass _ _ _ s z y)

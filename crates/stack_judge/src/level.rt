@@ -21,7 +21,7 @@ pub fn ground(count: usize, edges: usize) -> Level
     Level {
         start: 0,
         vertices: count,
-        edges: edges,
+        edges,
         faces: 2 * edges / 3,
     }
 }

@@ -12,7 +12,7 @@ ghost use Rattle.stack_judge.specs.StackVerdict.{stack_verdict};
 use check_mesh::{edge_count, judge};
 use level::{above, ground};
 use mesh::limits::{LEAST_LEVELS, MOST_LEVELS, MOST_VALENCE, MOST_VERTICES, Vertex};
-use rings::{Refusal, Verdict};
+use rings::Refusal;
 
 pub mod level;
 
@@ -20,10 +20,7 @@ pub mod level;
 pub fn is_bad_levels(levels: usize) -> bool
     ensures { result ≡ bad_levels levels }
 {
-    if levels < LEAST_LEVELS {
-        return true;
-    }
-    MOST_LEVELS < levels
+    levels < LEAST_LEVELS || MOST_LEVELS < levels
 }
 
 // Reason 9: the first of levels 0 to L that has more than 65,535 vertices, or L + 1.
@@ -34,15 +31,13 @@ fn first_too_large(count: usize, edges: usize, levels: usize) -> usize
     ensures { result ≡ first (too_large (closed_sizes count edges)) (suc levels) }
 {
     let mut level = ground(count, edges);
-    let mut k = 0;
-    while k <= levels {
+    for k in 0..=levels {
         if MOST_VERTICES < level.vertices {
             return k;
         }
         level = above(level);
-        k += 1;
     }
-    k
+    levels + 1
 }
 
 // The vertices of levels 0 to L: where level L + 1 would begin.
@@ -54,10 +49,8 @@ pub fn stack_count(count: usize, edges: usize, levels: usize) -> usize
     ensures upper_bound { result ≤ 4294967296 }
 {
     let mut level = ground(count, edges);
-    let mut k = 0;
-    while k <= levels {
+    for _ in 0..=levels {
         level = above(level);
-        k += 1;
     }
     level.start
 }
@@ -67,13 +60,7 @@ fn is_short_stack(valences: &[u16], rings: &[Vertex], positions: &[i32], n: usiz
     requires { n ≤ 4294967296 }
     ensures { result ≡ short_stack n (lent valences.now rings.now) positions.now }
 {
-    if valences.len() < n {
-        return true;
-    }
-    if rings.len() < n * MOST_VALENCE {
-        return true;
-    }
-    positions.len() < n * 3
+    valences.len() < n || rings.len() < n * MOST_VALENCE || positions.len() < n * 3
 }
 
 // May a stack of these levels stand in these tables? The control mesh is judged whole, the levels by their sizes.
@@ -83,23 +70,21 @@ pub fn judge_stack(
     positions: &[i32],
     count: usize,
     levels: usize,
-) -> Verdict
+) -> Result<(), Refusal>
     ensures { result ≡ stack_verdict count levels (lent valences.now rings.now) positions.now }
 {
     if is_bad_levels(levels) {
-        return Verdict::Refused(Refusal::LevelCount);
+        return Err(Refusal::LevelCount);
     }
-    if let Verdict::Refused(r) = judge(valences, rings, positions, count) {
-        return Verdict::Refused(r);
-    }
+    judge(valences, rings, positions, count)?;
     let edges = edge_count(valences, count);
     let large = first_too_large(count, edges, levels);
     if large <= levels {
-        return Verdict::Refused(Refusal::LevelTooLarge(large));
+        return Err(Refusal::LevelTooLarge(large));
     }
     let n = stack_count(count, edges, levels);
     if is_short_stack(valences, rings, positions, n) {
-        return Verdict::Refused(Refusal::NoRoom);
+        return Err(Refusal::NoRoom);
     }
-    Verdict::Accepted
+    Ok(())
 }

@@ -4,8 +4,8 @@ use mathlib.Core.List.{List}
 use Prim.Native.Nat.{ℕ}
 use lib.IntN.{ℤ}
 use Rattle.rings.specs.Table.{Lent, lent}
-use Rattle.rings.specs.declared.Counted.{Counted}
 use Rattle.stack_refine.specs.Refinement.{refine_answer, refine_valences, refine_rings, refine_positions}
+use Rattle.rings.specs.Refusal.{Counted}
 
 -- the answer and the tables after the call are as the contract says
 pub record Outcome (n levels : ℕ) (t : Lent) (ps : List ℤ) (answer : Counted) (t' : Lent) (ps' : List ℤ) : Type 0 where

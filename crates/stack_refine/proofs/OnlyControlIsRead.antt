@@ -20,14 +20,14 @@ use Rattle.rings.specs.Table.{Lent, lent, valence_at, ring_of, rows, coordinate_
 use Rattle.rings.specs.Check.{short_rings, short_tables, improper_row, unfit_row, beyond_at, check_verdict}
 use Rattle.rings.specs.Verdict.{refuse_at}
 use Rattle.rings.specs.declared.Refusal.TheVariants.{RingImproper, NotMutual, NotTriangle, ControlCoordinate}
-use Rattle.rings.specs.declared.Verdict.{Verdict}
-use Rattle.rings.specs.declared.Verdict.TheVariants.{Accepted}
 use Rattle.rings.proofs.Verdicts.{at_same}
 use Rattle.stack_judge.specs.Stack.{level_start, stack_count, short_stack}
 use Rattle.stack_judge.specs.StackVerdict.{stack_verdict}
 use Rattle.stack_judge.proofs.AcceptedStack.{stack_only}
 use Rattle.stack_refine.specs.Refinement.{refine_answer, refine_valences, refine_rings, refine_positions}
 use Rattle.stack_refine.proofs.StackIsRefined.{valence_is_refined, ring_is_refined, point_is_refined}
+use Rattle.rings.specs.Refusal.{Verdict}
+use Rattle.std.specs.Prelude.{Ok}
 
 -- ---- two inputs with the same control mesh, and tables of the same lengths
 
@@ -60,12 +60,12 @@ module _ (n levels : ℕ) (t : Lent) (ps : List ℤ) (t' : Lent) (ps' : List ℤ
   unfolding check_verdict
   same_check =
       let behind : Verdict =
-      refuse_at (one_sided (rows n t)) n NotMutual (refuse_at (open_faced (rows n t)) n NotTriangle (refuse_at (beyond_at ps) n ControlCoordinate Accepted)) in
+      refuse_at (one_sided (rows n t)) n NotMutual (refuse_at (open_faced (rows n t)) n NotTriangle (refuse_at (beyond_at ps) n ControlCoordinate (Ok tt))) in
       rw (
         same_short,
         at_same (unfit_row n t) (unfit_row n t') n RingImproper behind behind same_unfit (λ c. refl),
         same_mesh,
-        at_same (beyond_at ps) (beyond_at ps') n ControlCoordinate Accepted Accepted same_beyond (λ c. refl),
+        at_same (beyond_at ps) (beyond_at ps') n ControlCoordinate (Ok tt) (Ok tt) same_beyond (λ c. refl),
       )
 
   same_room : (c : ℕ) → short_stack c t ps ≡ short_stack c t' ps'
@@ -81,7 +81,7 @@ module _ (n levels : ℕ) (t : Lent) (ps : List ℤ) (t' : Lent) (ps' : List ℤ
   same_answer = rw (same_verdict, same_mesh)
 
   -- vertex x of level k of an accepted stack
-  module _ (accepted : Accepted ≡ stack_verdict n levels t ps) (k x : ℕ) (l : k ≤ levels) (h : x < (level (rows n t) k).count) where
+  module _ (accepted : (Ok tt) ≡ stack_verdict n levels t ps) (k x : ℕ) (l : k ≤ levels) (h : x < (level (rows n t) k).count) where
     -- its stack vertex, by either input
     abbrev at : ℕ
     at = level_start (sizes_of n (rows n t)) k + x
@@ -89,7 +89,7 @@ module _ (n levels : ℕ) (t : Lent) (ps : List ℤ) (t' : Lent) (ps' : List ℤ
     at_same_place : at ≡ level_start (sizes_of n (rows n t')) k + x
     at_same_place = ap (λ (N : Mesh). level_start (sizes_of n N) k + x) same_mesh
 
-    accepted' : Accepted ≡ stack_verdict n levels t' ps'
+    accepted' : (Ok tt) ≡ stack_verdict n levels t' ps'
     accepted' = accepted ∙ same_verdict
 
     h' : x < (level (rows n t') k).count

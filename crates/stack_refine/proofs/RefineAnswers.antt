@@ -9,18 +9,16 @@ use Rattle.loop_step.specs.Refine.{level}
 use Rattle.rings.specs.Table.{lent, Lent, rows}
 use Rattle.rings.specs.Verdict.{after, with_counts}
 use Rattle.rings.specs.declared.Refusal.{Refusal}
-use Rattle.rings.specs.declared.Verdict.{Verdict}
-use Rattle.rings.specs.declared.Verdict.TheVariants.{Accepted, Refused}
-use Rattle.rings.specs.declared.Counted.TheVariants.{Counts}
-use Rattle.rings.specs.declared.Counted.TheVariants as counted
 use Rattle.stack_judge.specs.Accepts.{AcceptsStack}
 use Rattle.stack_judge.specs.StackVerdict.{stack_verdict}
 use Rattle.stack_judge.proofs.AcceptedStack.{stack_only}
 use Rattle.stack_refine.specs.Refinement.{stacked_valences, stacked_rings, stacked_positions, refine_answer, refine_valences, refine_rings, refine_positions}
+use Rattle.rings.specs.Refusal.{Verdict, counted}
+use Rattle.std.specs.Prelude.{Ok, Err}
 
 module _ (n levels : ℕ) (t : Lent) (ps : List ℤ) where
-  module _ (r : Refusal) (e : Refused r ≡ stack_verdict n levels t ps) where
-    pub refused_answer : counted.Refused r ≡ refine_answer n levels t ps
+  module _ (r : Refusal) (e : Err r ≡ stack_verdict n levels t ps) where
+    pub refused_answer : Err r ≡ refine_answer n levels t ps
     unfolding refine_answer with_counts
     refused_answer = rw (← e)
 
@@ -28,8 +26,8 @@ module _ (n levels : ℕ) (t : Lent) (ps : List ℤ) where
     unfolding refine_valences refine_rings refine_positions after
     refused_tables = (rw (← e), (rw (← e), rw (← e)))
 
-  module _ (e : Accepted ≡ stack_verdict n levels t ps) where
-    pub accepted_answer : Counts (level (rows n t) levels).count (edges (level (rows n t) levels)) (faces (level (rows n t) levels)) ≡ refine_answer n levels t ps
+  module _ (e : (Ok tt) ≡ stack_verdict n levels t ps) where
+    pub accepted_answer : counted (level (rows n t) levels).count (edges (level (rows n t) levels)) (faces (level (rows n t) levels)) ≡ refine_answer n levels t ps
     unfolding refine_answer with_counts
     accepted_answer = rw (← e)
 
@@ -53,5 +51,5 @@ module _ (n levels : ℕ) (t : Lent) (ps : List ℤ) where
   by_verdict Q old new = go (stack_verdict n levels t ps) refl
     where
       go : (w : Verdict) → stack_verdict n levels t ps ≡ w → Q (lent (after w (stacked_valences n levels t) t.valences) (after w (stacked_rings n levels t) t.rings)) (after w (stacked_positions n levels t ps) ps)
-      go Accepted e = new (stack_only n levels t ps e)
-      go (Refused r) e = old
+      go (Ok u) e = new (stack_only n levels t ps e)
+      go (Err r) e = old

@@ -15,7 +15,6 @@ use Rattle.loop_step.specs.Refine.{level}
 use Rattle.loop_step.specs.Loop.{loop}
 use Rattle.loop_step.proofs.RefinementKeepsSoundness as K
 use Rattle.rings.specs.Table.{Lent, lent, ring_of, rows, padded, coordinate_at}
-use Rattle.rings.specs.declared.Verdict.TheVariants.{Accepted}
 use Rattle.stack_judge.specs.Stack.{level_start}
 use Rattle.stack_judge.specs.Accepts.{AcceptsStack}
 use Rattle.stack_judge.specs.StackVerdict.{stack_verdict}
@@ -24,8 +23,9 @@ use Rattle.stack_judge.proofs.Sizes.{start_none}
 use Rattle.stack_refine.specs.Refinement.{stacked_valences, stacked_rings, stacked_positions, refine_valences, refine_rings, refine_positions}
 use Rattle.stack_refine.proofs.RefineAnswers.{accepted_valences, accepted_rings, accepted_positions}
 use Rattle.stack_refine.proofs.StackLevels as T
+use Rattle.std.specs.Prelude.{Ok}
 
-module _ (n levels : ℕ) (t : Lent) (ps : List ℤ) (accepted : Accepted ≡ stack_verdict n levels t ps) where
+module _ (n levels : ℕ) (t : Lent) (ps : List ℤ) (accepted : (Ok tt) ≡ stack_verdict n levels t ps) where
   -- the control mesh, where level k begins, and the tables after the call
   abbrev M : Mesh
   M = rows n t

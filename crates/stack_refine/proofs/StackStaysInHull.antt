@@ -10,15 +10,15 @@ use Rattle.loop_step.specs.Refine.{level}
 use Rattle.loop_step.proofs.PointsStayInHull.{points_stay_in_hull, range_is_kept}
 use Rattle.units.specs.Coordinate.{InRange}
 use Rattle.rings.specs.Table.{Lent, rows, coordinate_at}
-use Rattle.rings.specs.declared.Verdict.TheVariants.{Accepted}
 use Rattle.stack_judge.specs.Stack.{level_start}
 use Rattle.stack_judge.specs.Accepts.{AcceptsStack}
 use Rattle.stack_judge.specs.StackVerdict.{stack_verdict}
 use Rattle.stack_judge.proofs.AcceptedStack.{stack_only}
 use Rattle.stack_refine.specs.Refinement.{refine_positions}
 use Rattle.stack_refine.proofs.StackIsRefined.{point_is_refined}
+use Rattle.std.specs.Prelude.{Ok}
 
-module _ (n levels : ℕ) (t : Lent) (ps : List ℤ) (accepted : Accepted ≡ stack_verdict n levels t ps) (axis : ℕ) (b : axis < 3) where
+module _ (n levels : ℕ) (t : Lent) (ps : List ℤ) (accepted : (Ok tt) ≡ stack_verdict n levels t ps) (axis : ℕ) (b : axis < 3) where
   a : AcceptsStack n levels t ps
   a = stack_only n levels t ps (sym accepted)
 

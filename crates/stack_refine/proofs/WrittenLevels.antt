@@ -15,7 +15,6 @@ use Rattle.steps.specs.Sizes.{sizes_of, closed_sizes}
 use Rattle.loop_step.specs.Refine.{level}
 use Rattle.loop_step.specs.Loop.{loop}
 use Rattle.rings.specs.Table.{Lent, lent, put, rows, valence_rows, ring_rows, coordinate_at, point_rows}
-use Rattle.rings.specs.declared.Counted.TheVariants.{Counts}
 use Rattle.rings.proofs.Tables.{put_nothing}
 use Rattle.rings.proofs.LevelRows.{part_is}
 use Rattle.stack_judge.specs.declared.level.Level.{Level}
@@ -26,6 +25,7 @@ use Rattle.loop_points.specs.Level.{Levels, valences_up_to, rings_up_to, positio
 use Rattle.stack_refine.specs.Refinement.{stacked_valences, stacked_rings, stacked_positions}
 use Rattle.stack_refine.proofs.StackLevels as T
 use Rattle.stack_refine.proofs.LevelWritten.{part_levels, valences_written, rings_written, positions_written}
+use Rattle.rings.specs.Refusal.{counted}
 
 pub record Running (n levels : ℕ) (t : Lent) (ps : List ℤ) (k : ℕ) (below : Level) (t' : Lent) (ps' : List ℤ) : Type 0 where
   pub within : k ≤ levels
@@ -147,8 +147,8 @@ module _ {n levels : ℕ} {t : Lent} {ps : List ℤ} (a : AcceptsStack n levels 
     done : k ≡ levels
     done = let h = r.within in omega arith
 
-    pub end_counts : Counts count below.edges below.faces
-        ≡ Counts (level (rows n t) levels).count (edges (level (rows n t) levels)) (faces (level (rows n t) levels))
+    pub end_counts : counted count below.edges below.faces
+        ≡ counted (level (rows n t) levels).count (edges (level (rows n t) levels)) (faces (level (rows n t) levels))
     unfolding rows
     end_counts =
         let c : count ≡ (level (rows n t) levels).count = at_size ∙ ap (λ (j : ℕ). (level (rows n t) j).count) done in

@@ -8,13 +8,9 @@ use Rattle.steps.specs.Mask.{refined}
 use Rattle.loop_step.specs.Refine.{level}
 use Rattle.loop_step.specs.Loop.{loop}
 use Rattle.rings.specs.Table.{Lent, gather, put, rows, valence_rows, ring_rows, coordinate_at, point_rows}
-use Rattle.rings.specs.Verdict.{refuse_if, refuse_at, and_then, after, with_counts}
-use Rattle.rings.specs.Check.{check_verdict}
-use Rattle.rings.specs.declared.Refusal.TheVariants.{LevelCount, LevelTooLarge, NoRoom}
-use Rattle.rings.specs.declared.Verdict.{Verdict}
-use Rattle.rings.specs.declared.Verdict.TheVariants.{Accepted}
-use Rattle.rings.specs.declared.Counted.{Counted}
+use Rattle.rings.specs.Verdict.{after, with_counts}
 use Rattle.stack_judge.specs.StackVerdict.{stack_verdict}
+use Rattle.rings.specs.Refusal.{Counted}
 
 -- the tables once levels 1 to k stand right behind level 0; all else is as it was
 module _ (n k : ℕ) (t : Lent) where

@@ -1,16 +1,16 @@
 // The levels of a stack, written one after the other.
-ghost use Rattle.std.specs.Prelude.{◌≡◌};
+ghost use Rattle.std.specs.Prelude.{◌≡◌, Ok};
 ghost use Rattle.mesh.specs.Mesh.{edges, faces};
 ghost use Rattle.loop_step.specs.Refine.{level};
 ghost use Rattle.rings.specs.Table.{lent, rows};
-ghost use Rattle.rings.specs.declared.Counted.TheVariants.{Counts};
+ghost use Rattle.rings.specs.Refusal.{counted};
 ghost use Rattle.stack_judge.specs.Accepts.{AcceptsStack};
 ghost use Rattle.stack_refine.specs.Refinement.{stacked_valences, stacked_rings, stacked_positions};
 
 use check_mesh::edge_count;
 use loop_sweep::write::write_level;
 use mesh::limits::{MOST_VALENCE, Vertex};
-use rings::Counted;
+use rings::Counts;
 use stack_judge::level::{above, ground};
 
 // Writes levels 1 to L right behind level 0; answers V, E and F of level L.
@@ -20,16 +20,15 @@ pub fn write_levels(
     positions: &mut [i32],
     count: usize,
     levels: usize,
-) -> Counted
+) -> Counts
     requires { AcceptsStack count levels (lent valences.old rings.old) positions.old }
-    ensures value { result ≡ Counts (level (rows count (lent valences.old rings.old)) levels).count (edges (level (rows count (lent valences.old rings.old)) levels)) (faces (level (rows count (lent valences.old rings.old)) levels)) }
+    ensures value { Ok result ≡ counted (level (rows count (lent valences.old rings.old)) levels).count (edges (level (rows count (lent valences.old rings.old)) levels)) (faces (level (rows count (lent valences.old rings.old)) levels)) }
     ensures valences_after { valences.new ≡ stacked_valences count levels (lent valences.old rings.old) }
     ensures rings_after { rings.new ≡ stacked_rings count levels (lent valences.old rings.old) }
     ensures positions_after { positions.new ≡ stacked_positions count levels (lent valences.old rings.old) positions.old }
 {
     let mut below = ground(count, edge_count(valences, count));
-    let mut k = 0;
-    while k < levels {
+    for _ in 0..levels {
         let base = below.start;
         write_level(
             &mut valences[base..],
@@ -38,9 +37,8 @@ pub fn write_levels(
             below.vertices,
         );
         below = above(below);
-        k += 1;
     }
-    Counted::Counts {
+    Counts {
         v: below.vertices,
         e: below.edges,
         f: below.faces,

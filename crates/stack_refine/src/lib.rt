@@ -7,7 +7,7 @@ ghost use Rattle.stack_refine.specs.Refinement.{refine_answer, refine_valences, 
 
 use levels::write_levels;
 use mesh::limits::Vertex;
-use rings::{Counted, Verdict};
+use rings::{Counts, Refusal};
 use stack_judge::judge_stack;
 
 pub mod levels;
@@ -19,14 +19,12 @@ pub fn refine(
     positions: &mut [i32],
     count: usize,
     levels: usize,
-) -> Counted
+) -> Result<Counts, Refusal>
     ensures value { result ≡ refine_answer count levels (lent valences.old rings.old) positions.old }
     ensures valences_after { valences.new ≡ refine_valences count levels (lent valences.old rings.old) positions.old }
     ensures rings_after { rings.new ≡ refine_rings count levels (lent valences.old rings.old) positions.old }
     ensures positions_after { positions.new ≡ refine_positions count levels (lent valences.old rings.old) positions.old }
 {
-    if let Verdict::Refused(r) = judge_stack(valences, rings, positions, count, levels) {
-        return Counted::Refused(r);
-    }
-    write_levels(valences, rings, positions, count, levels)
+    judge_stack(valences, rings, positions, count, levels)?;
+    Ok(write_levels(valences, rings, positions, count, levels))
 }

@@ -18,10 +18,9 @@ use Rattle.mesh.proofs.Rings.{get_or_in}
 use Rattle.mesh.proofs.Overs.{over_none, over_next, over_left}
 use Rattle.loop_step.specs.Refine.{mid}
 use Rattle.loop_step.proofs.RefinedRows.{first_start, next_start, last_start, edge_number}
-use Rattle.rings.specs.Table.{Lent, valence_at, ring_of, rows}
+use Rattle.rings.specs.Table.{Lent, ring_of, rows}
 use Rattle.rings.proofs.Rows.{rows_ring}
 use Rattle.loop_points.specs.Level.{Ready, start_of}
-use Rattle.loop_points.proofs.Mids.{ready_length}
 
 -- ---- searches that go on where another ended
 
@@ -79,6 +78,9 @@ module _ {n : ℕ} {t : Lent} (r : Ready n t) where
   pub start_most : (p : ℕ) → p ≤ n → {s : ℕ} → s ≡ start_of n t p → s ≤ edges M
   start_most p h a = let e = start_end in omega (arith, climbs (start_of n t) (λ i. omega (arith, start_step i)) p n h)
 
+  pub start_within : {p : ℕ} → p < n → (s : ℕ) → s ≡ start_of n t p → (table : List ℕ) → table ≡ ring_of t p → (k : ℕ) → k ≡ length (over p table) → s + k ≤ edges M
+  start_within {p} h s e table d k f = start_most (p + 1) (omega arith) (start_more h s e table d k f)
+
   pub start_all : (p : ℕ) → p ≤ n → n ≤ p → {s : ℕ} → s ≡ start_of n t p → s ≡ edges M
   start_all p h g a = let e : p ≡ n = omega arith in a ∙ ap (start_of n t) e ∙ start_end
 
@@ -111,12 +113,6 @@ module _ {n : ℕ} {t : Lent} (r : Ready n t) {p : ℕ} (h : p < n) {s : ℕ} (a
       over_left p last table k.low (omega arith)
 
   module _ (i : ℕ) (m : i < length table) (o : last < get_or table i 0) (z : below (get_or table i 0) (over last table) ≡ 0) where
-    pub passed_place : i < valence_at t p
-    passed_place = let w = ready_length r h in let v : length table ≡ length (ring_of t p) = ap length d in omega arith
-
-    pub passed_over : p < get_or (ring_of t p) i 0
-    passed_over = rw (← d) (let w = k.low in omega arith)
-
     passed_rank : x ≡ s + below (get_or table i 0) (over p table)
     passed_rank = let w = over_next p last (get_or table i 0) table k.low o z in let g = passed_here in omega arith
 

@@ -1,14 +1,16 @@
 -- The rows right behind a level, held against what refinement gives. Assumes nothing.
 use Prim.Native.Nat.{ℕ, ◌+◌, ◌*◌, ◌≤◌, ◌<◌}
 use mathlib.Core.Path.{◌≡◌, sym, ap, ◌∙◌}
-use mathlib.Core.Bool.{Bool, true, false, not}
+use mathlib.Core.Bool.{Bool, not}
 use mathlib.Core.List.{List}
 use native.Mathlib.Omega.{arith}
 use lib.IntN.{ℤ}
-use lib.ListN.{length, get_or, take, drop}
+use lib.ListN.{length, get_or}
+use lib.Dec.{eqb}
+use Rattle.mesh.specs.Search.{some}
 use Rattle.mesh.specs.Mesh.{Mesh, edges}
 use Rattle.mesh.specs.Ring.{◌∈◌}
-use Rattle.mesh.proofs.First.{Clear}
+use Rattle.mesh.proofs.First.{Clear, first_same}
 use Rattle.mesh.proofs.Rings.{get_or_in}
 use Rattle.mesh.proofs.SoundMeshes as H
 use Rattle.loop_step.specs.Refine.{mid, old_ring, new_ring, refine}
@@ -22,7 +24,11 @@ use Rattle.loop_points.proofs.Mids.{ready_length, ready_entry}
 use Rattle.loop_points.proofs.OldRings.{old_length, old_entry}
 use Rattle.stack_strange.specs.Expected.{same_list, strange_next}
 use Rattle.stack_strange.proofs.Strange.{as_wanted}
-use Rattle.stack_strange.proofs.SameLists.{Agree, agree_more, agree_all, differ_at}
+use Rattle.stack_strange.proofs.SameLists.{differ_some}
+
+some_same : (p q : ℕ → Bool) (n : ℕ) → ((k : ℕ) → k < n → p k ≡ q k) → some p n ≡ some q n
+unfolding some
+some_same p q n h = rw (first_same p q n h)
 
 module _ {n : ℕ} {t : Lent} (r : Ready n t) where
   abbrev M : Mesh
@@ -52,16 +58,10 @@ module _ {n : ℕ} {t : Lent} (r : Ready n t) where
       old_row_length : length (ring_of t (n + p)) ≡ valence_at t p
       old_row_length = let m = r.most p h in row_length t (n + p) (next_row p (omega arith) (omega arith)) ∙ same
 
-      -- place i, as the loop compares it
-      module _ (i : ℕ) (l : i < valence_at t p) (m : ℕ) (e : m ≡ mid M p (get_or (ring_of t p) i 0)) where
-        pub old_differs : (get_or t.rings ((n + p) * 32 + i) 0 ≡ m → ⊥) → true ≡ not (same_list (ring_of t (n + p)) ((refine M).ring p))
-        old_differs d = differ_at (ring_of t (n + p)) ((refine M).ring p) i (λ q. d (sym (row_entry i l) ∙ q ∙ want_entry i l ∙ sym e))
-
-        pub old_agrees : Agree (ring_of t (n + p)) ((refine M).ring p) i → get_or t.rings ((n + p) * 32 + i) 0 ≡ m → Agree (ring_of t (n + p)) ((refine M).ring p) (i + 1)
-        old_agrees a q = agree_more a (row_entry i l ∙ q ∙ e ∙ sym (want_entry i l))
-
-      pub old_same : {i : ℕ} → Agree (ring_of t (n + p)) ((refine M).ring p) i → valence_at t p ≤ i → false ≡ not (same_list (ring_of t (n + p)) ((refine M).ring p))
-      old_same a l = agree_all (ring_of t (n + p)) ((refine M).ring p) (old_row_length ∙ sym want_length) a (let e = old_row_length in omega arith)
+      -- compared place by place
+      pub old_differing : some (λ i. not (eqb (get_or t.rings ((n + p) * 32 + i) 0) (mid M p (get_or (ring_of t p) i 0)))) (valence_at t p) ≡ not (same_list (ring_of t (n + p)) ((refine M).ring p))
+      old_differing =
+          some_same _ _ (valence_at t p) (λ i l. rw (row_entry i l, want_entry i l)) ∙ differ_some (ring_of t (n + p)) ((refine M).ring p) old_row_length want_length
 
   -- where no old vertex below k is strange, these have their rings
   pub has_old : (ps : List ℤ) (k : ℕ) → k ≤ n → Clear (strange_next n t ps) k → HasOld n t k
@@ -94,9 +94,3 @@ module _ {n : ℕ} {t : Lent} (r : Ready n t) where
     pub new_length : length ((refine M).ring x) ≡ 6
     unfolding new_ring
     new_length = ap length new_is
-
-    -- its six places, against the ring that is wanted
-    pub new_compared : valence_at t (n + x) ≡ 6 → (places : List ℕ) → places ≡ new_ring M p q → (b : Bool) → b ≡ not (same_list (take 6 (drop ((n + x) * 32) t.rings)) places)
-        → b ≡ not (same_list (ring_of t (n + x)) ((refine M).ring x))
-    unfolding ring_of
-    new_compared v places s b d = rw (v, new_is, ← s) d

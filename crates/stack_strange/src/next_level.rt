@@ -27,14 +27,7 @@ fn differs_old(valences: &[u16], rings: &[Vertex], count: usize, p: usize, start
 {
     let n = valences[p] as usize;
     let a = (count + p) * MOST_VALENCE;
-    let mut i = 0;
-    while i < n {
-        if rings[a + i] as usize != middle(valences, rings, count, p, start, i) {
-            return true;
-        }
-        i += 1;
-    }
-    false
+    (0..n).any(|i| rings[a + i] as usize != middle(valences, rings, count, p, start, i))
 }
 
 // Is old vertex p on the next level not as refinement gives it, or beyond the range?
@@ -53,13 +46,9 @@ fn is_old_strange(
     requires has_old { HasOld count (lent valences.now rings.now) p }
     ensures { result ≡ strange_next count (lent valences.now rings.now) positions.now p }
 {
-    if valences[count + p] != valences[p] {
-        return true;
-    }
-    if differs_old(valences, rings, count, p, start) {
-        return true;
-    }
-    has_beyond(positions, count + p)
+    valences[count + p] != valences[p]
+        || differs_old(valences, rings, count, p, start)
+        || has_beyond(positions, count + p)
 }
 
 // The first old vertex that is strange on the next level, or the count.
@@ -69,15 +58,13 @@ fn first_strange_old(valences: &[u16], rings: &[Vertex], positions: &[i32], coun
     ensures { result ≡ first (strange_next count (lent valences.now rings.now) positions.now) count }
 {
     let mut start: usize = 0;
-    let mut p = 0;
-    while p < count {
+    for p in 0..count {
         if is_old_strange(valences, rings, positions, count, p, start) {
             return p;
         }
         start += count_over(ring_of(valences, rings, p), p);
-        p += 1;
     }
-    p
+    count
 }
 
 // Do the six places of a row differ from a new vertex's ring?
@@ -87,22 +74,7 @@ fn differs_new(rings: &[Vertex], row: usize, ring: NewRing) -> bool
     ensures { result ≡ not (same_list (take 6 (drop (row * most_valence) rings.now)) (places_of ring)) }
 {
     let a = row * MOST_VALENCE;
-    if rings[a] != ring.p {
-        return true;
-    }
-    if rings[a + 1] != ring.pb {
-        return true;
-    }
-    if rings[a + 2] != ring.qb {
-        return true;
-    }
-    if rings[a + 3] != ring.q {
-        return true;
-    }
-    if rings[a + 4] != ring.qa {
-        return true;
-    }
-    rings[a + 5] != ring.pa
+    rings[a..a + 6] != [ring.p, ring.pb, ring.qb, ring.q, ring.qa, ring.pa]
 }
 
 // Is the new vertex of the edge from p to the neighbour at place i of p, vertex x of the next level, not as refinement gives it, or beyond the range?
@@ -124,13 +96,9 @@ fn is_new_strange(
     requires x_value { x ≡ mid (rows count (lent valences.now rings.now)) p (get_or (ring_of (lent valences.now rings.now) p) i 0) }
     ensures { result ≡ strange_next count (lent valences.now rings.now) positions.now x }
 {
-    if valences[count + x] != 6 {
-        return true;
-    }
-    if differs_new(rings, count + x, around(valences, rings, count, p, i)) {
-        return true;
-    }
-    has_beyond(positions, count + x)
+    valences[count + x] != 6
+        || differs_new(rings, count + x, around(valences, rings, count, p, i))
+        || has_beyond(positions, count + x)
 }
 
 // The first strange vertex up to the edges p < q, by ascending q, where `start` edges come before them and nothing there is strange; or the number after them.
@@ -153,17 +121,15 @@ fn first_strange_edge(
     ensures { result ≡ first (strange_next count (lent valences.now rings.now) positions.now) (count + end) }
 {
     let mut last = p;
-    let mut x = start;
-    while x < end {
+    for x in start..end {
         let ring = ring_of(valences, rings, p);
         let i = place_over(ring, last);
         last = ring[i] as usize;
         if is_new_strange(valences, rings, positions, count, p, i, count + x) {
             return count + x;
         }
-        x += 1;
     }
-    count + x
+    count + end
 }
 
 // The first strange vertex of the next level, or its count.
@@ -182,15 +148,13 @@ pub fn first_strange_next(
         return old;
     }
     let mut start: usize = 0;
-    let mut p = 0;
-    while p < count {
+    for p in 0..count {
         let end = start + count_over(ring_of(valences, rings, p), p);
         let x = first_strange_edge(valences, rings, positions, count, p, start, end);
         if x < count + end {
             return x;
         }
         start = end;
-        p += 1;
     }
     count + start
 }

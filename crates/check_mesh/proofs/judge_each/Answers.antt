@@ -10,15 +10,15 @@ use Rattle.rings.specs.Verdict.{refuse_at}
 use Rattle.rings.specs.Check.{bad_count, short_tables, unfit_row, beyond_at, check_verdict}
 use Rattle.rings.specs.Accepts.{Fit}
 use Rattle.rings.specs.declared.Refusal.TheVariants.{RingImproper, NotMutual, NotTriangle, ControlCoordinate}
-use Rattle.rings.specs.declared.Verdict.{Verdict}
-use Rattle.rings.specs.declared.Verdict.TheVariants.{Accepted}
 use Rattle.rings.proofs.Verdicts.{if_clear, at_hit, at_pass}
 use Rattle.rings.proofs.Checks.{long_tables, fit_from}
+use Rattle.rings.specs.Refusal.{Verdict}
+use Rattle.std.specs.Prelude.{Ok}
 use Rattle.check_mesh.proofs.judge_each.Goals as goal
 
 -- what is left of the verdict before each reason
 abbrev from7 : ℕ → List ℤ → Verdict
-from7 n ps = refuse_at (beyond_at ps) n ControlCoordinate Accepted
+from7 n ps = refuse_at (beyond_at ps) n ControlCoordinate (Ok tt)
 
 abbrev from6 : ℕ → Lent → List ℤ → Verdict
 from6 n t ps = refuse_at (open_faced (rows n t)) n NotTriangle (from7 n ps)

@@ -1,4 +1,5 @@
 -- `coordinate_length` meets its contract. Assumes nothing.
+use borrow.Author.Rules.{rules}
 use mathlib.Core.Path.{ap, ◌∙◌}
 use lib.IntN.{ℤ, pos}
 use lib.ListN.{length, get_or}
@@ -8,10 +9,10 @@ use Rattle.numerals.proofs.coordinate_length.Goals as goal
 
 pub signed_length-requires : goal.signed_length-requires
 signed_length-requires c =
-    (bits_are (get_or c.args.positions.now c.args.i (pos 0)) (record { sfits = c.bits_of-arg-1.given }) c.bits_of.ensures).below
+    (bits_are (get_or c.args.positions.now c.args.i (pos 0)) (record { sfits = search rules }) c.bits_of.ensures).below
 
 pub returns : goal.returns
 returns c =
     let z = get_or c.args.positions.now c.args.i (pos 0) in
-    let b = bits_are z (record { sfits = c.bits_of-arg-1.given }) c.bits_of.ensures in
+    let b = bits_are z (record { sfits = search rules }) c.bits_of.ensures in
     record { value = c.signed_length.ensures.value ∙ ap (λ (z : ℤ). length (signed z 0)) b.is; upper_bound = c.signed_length.ensures.upper_bound }

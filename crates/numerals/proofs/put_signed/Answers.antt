@@ -18,11 +18,11 @@ pub put_byte-end-requires : goal.put_byte-end-requires
 put_byte-end-requires c =
     omega (arith, ap length (signed_high c.args.bits c.args.last c.if-bits-lt-LEAST_NEGATIVE.false c.requires.bits_bound))
 
-pub put_number-requires-2 : goal.put_number-requires-2
-put_number-requires-2 c =
+pub put_number-requires-else-bits-lt-LEAST_NEGATIVE : goal.put_number-requires-else-bits-lt-LEAST_NEGATIVE
+put_number-requires-else-bits-lt-LEAST_NEGATIVE c =
     omega (arith, ap length (signed_high c.args.bits c.args.last c.if-bits-lt-LEAST_NEGATIVE.false c.requires.bits_bound))
 
-pub returns : goal.returns
-returns c =
+pub returns-else-bits-lt-LEAST_NEGATIVE : goal.returns-else-bits-lt-LEAST_NEGATIVE
+returns-else-bits-lt-LEAST_NEGATIVE c =
     wrote_is (signed_high c.args.bits c.args.last c.if-bits-lt-LEAST_NEGATIVE.false c.requires.bits_bound)
-    (wrote_then 22 c.put_byte-end.ensures c.put_number-2.ensures (omega arith))
+    (wrote_then 22 c.put_byte-end.ensures c.put_number-else-bits-lt-LEAST_NEGATIVE.ensures (omega arith))

@@ -7,14 +7,14 @@ use Rattle.numerals.proofs.Digits.{number_length}
 use Rattle.numerals.proofs.Writing.{signed_low, signed_high}
 use Rattle.numerals.proofs.signed_length.Goals as goal
 
-pub returns-then-bits-lt-LEAST_NEGATIVE : goal.returns-then-bits-lt-LEAST_NEGATIVE
-returns-then-bits-lt-LEAST_NEGATIVE c =
+pub returns-then-bits-lt-LEAST_NEGATIVE-clause-value : goal.returns-then-bits-lt-LEAST_NEGATIVE-clause-value
+returns-then-bits-lt-LEAST_NEGATIVE-clause-value c =
     let n = c.args.bits in
     let e = ap length (signed_low n 0 c.if-bits-lt-LEAST_NEGATIVE.true) in
-    record { value = omega (arith, c.digit_count.ensures.value, number_length n 0); upper_bound = omega (arith, c.digit_count.ensures.upper_bound) }
+    omega (arith, c.digit_count.ensures.value, number_length n 0)
 
-pub returns : goal.returns
-returns c =
+pub returns-else-bits-lt-LEAST_NEGATIVE-clause-value : goal.returns-else-bits-lt-LEAST_NEGATIVE-clause-value
+returns-else-bits-lt-LEAST_NEGATIVE-clause-value c =
     let n = c.args.bits in
     let e = ap length (signed_high n 0 c.if-bits-lt-LEAST_NEGATIVE.false c.requires) in
-    record { value = omega (arith, c.digit_count-2.ensures.value, number_length (4294967296 - n) 0); upper_bound = omega (arith, c.digit_count-2.ensures.upper_bound) }
+    omega (arith, c.digit_count-else-bits-lt-LEAST_NEGATIVE.ensures.value, number_length (4294967296 - n) 0)

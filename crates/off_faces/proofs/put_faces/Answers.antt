@@ -6,7 +6,7 @@ use Rattle.off_faces.proofs.FacesWritten.{reached_none, reached_fits, reached_mo
 use Rattle.off_faces.proofs.put_faces.Goals as goal
 
 pub loop-a-init : goal.loop-a-init
-loop-a-init c = let h = c.requires.rings_in_bounds in reached_none _ _ (omega arith)
+loop-a-init c = reached_none _ _ (omega arith)
 
 pub ring_of-requires : goal.ring_of-requires
 ring_of-requires c = fit_row c.requires.fit c.loop-a-test.true
@@ -15,13 +15,13 @@ pub put_faces_of-end-requires : goal.put_faces_of-end-requires
 put_faces_of-end-requires c =
     let h = c.loop-a-test.true in
     let e = c.ring_of.ensures.result_value in
-    record { ascending = row_ascending c.args.count (lent c.args.valences.now c.args.rings.now) c.requires.sound h _ e; count_in_bounds = reached_fits c.loop-a.invariant h _ e c.requires.rings_in_bounds }
+    record {
+      ascending = row_ascending c.args.count (lent c.args.valences.now c.args.rings.now) c.requires.sound h _ e;
+      count_in_bounds = reached_fits _ _ c.loop-a.invariant h _ e c.requires.rings_in_bounds;
+    }
 
 pub loop-a-preserved : goal.loop-a-preserved
-loop-a-preserved c =
-    let h = c.loop-a-test.true in
-    let e = c.ring_of.ensures.result_value in
-    reached_more c.loop-a.invariant h _ e c.put_faces_of-end.ensures
+loop-a-preserved c = reached_more _ _ c.loop-a.invariant c.loop-a-test.true _ c.ring_of.ensures.result_value c.put_faces_of-end.ensures
 
 pub returns : goal.returns
-returns c = reached_end c.loop-a.invariant c.loop-a-test.false
+returns c = reached_end _ _ c.loop-a.invariant (omega arith)

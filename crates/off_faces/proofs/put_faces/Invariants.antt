@@ -1,10 +1,8 @@
-use Prim.Native.Nat.{◌-◌}
-use Rattle.rings.specs.Table.{lent}
-use Rattle.off_faces.proofs.FacesWritten.{Reached}
+use Rattle.rings.specs.Table.{lent, rows}
+use Rattle.off_rings.specs.Listed.{faces_below}
+use Rattle.off_text.specs.WriteOff.{face_lines}
+use Rattle.off_lines.specs.Written.{Written}
 use Rattle.off_faces.proofs.put_faces.Given as goal
 
 abbrev pub invariant-loop-a : goal.invariant-loop-a
-invariant-loop-a l = Reached l.count (lent l.valences l.rings) l.initial.text l.at l.a l.text l.end
-
-abbrev pub decreases-loop-a : goal.decreases-loop-a
-decreases-loop-a l = l.count - l.a
+invariant-loop-a l = Written l.initial.text l.at (face_lines (faces_below (rows l.count (lent l.valences l.rings)) l.a)) l.text l.end

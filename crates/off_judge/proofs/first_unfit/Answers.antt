@@ -3,14 +3,10 @@ use Rattle.off_judge.proofs.Faulty.{unfit_known, unfit_found, unfit_none}
 use Rattle.off_judge.proofs.first_unfit.Goals as goal
 
 pub returns-then-known-count : goal.returns-then-known-count
-returns-then-known-count c = let a = c.args in unfit_known a.counts.now a.first a.rows a.known a.count c.if-known-count.true
+returns-then-known-count c = unfit_known _ _ _ _ _ c.if-known-count.true
 
 pub returns-then-j-rows : goal.returns-then-j-rows
-returns-then-j-rows c =
-    let a = c.args in
-    unfit_found a.counts.now a.first a.rows a.known a.count c.if-known-count.false c.unfit_row-j.ensures c.if-j-rows.true
+returns-then-j-rows c = unfit_found _ _ _ _ _ c.if-known-count.false c.unfit_row-j.ensures c.if-j-rows.true
 
-pub returns : goal.returns
-returns c =
-    let a = c.args in
-    unfit_none a.counts.now a.first a.rows a.known a.count c.if-known-count.false c.unfit_row-j.ensures c.if-j-rows.false
+pub returns-else-j-rows : goal.returns-else-j-rows
+returns-else-j-rows c = unfit_none _ _ _ _ _ c.if-known-count.false c.unfit_row-j.ensures c.if-j-rows.false

@@ -4,8 +4,12 @@ use Rattle.off_blocks.specs.Blocks.{Tables, ahead}
 use Rattle.off_judge.specs.Judging.{Sofar}
 use Rattle.off_judge.proofs.judge_vertices.Given as goal
 
-abbrev pub invariant-loop-at : goal.invariant-loop-at
-invariant-loop-at l = Sofar l.text l.at l.width l.unfit × (Tables l.counts l.froms l.tos × SameRoom l.initial.counts l.initial.froms l.initial.tos l.counts l.froms l.tos)
+abbrev pub invariant-loop-step : goal.invariant-loop-step
+invariant-loop-step l = record {
+  sofar : Sofar l.text l.step.at l.step.width l.step.unfit;
+  tables : Tables l.counts l.froms l.tos;
+  same : SameRoom l.initial.counts l.initial.froms l.initial.tos l.counts l.froms l.tos;
+}
 
-abbrev pub decreases-loop-at : goal.decreases-loop-at
-decreases-loop-at l = ahead (text_count l.text) l.at l.width
+abbrev pub decreases-loop-step : goal.decreases-loop-step
+decreases-loop-step l = ahead (text_count l.text) l.step.at l.step.width

@@ -37,13 +37,13 @@ returns-then-text-at-eq-MINUS c =
 pub read_number-above-requires : goal.read_number-above-requires
 read_number-above-requires c = (unit_above c.requires c.if-text-at-eq-MINUS.false).there
 
-pub coordinate_of-requires-2 : goal.coordinate_of-requires-2
-coordinate_of-requires-2 c =
+pub coordinate_of-requires-else-text-at-eq-MINUS : goal.coordinate_of-requires-else-text-at-eq-MINUS
+coordinate_of-requires-else-text-at-eq-MINUS c =
     let k = unit_above c.requires c.if-text-at-eq-MINUS.false in
     omega (arith, k.low, c.read_number-above.ensures.value_value)
 
-pub returns : goal.returns
-returns c =
+pub returns-else-text-at-eq-MINUS : goal.returns-else-text-at-eq-MINUS
+returns-else-text-at-eq-MINUS c =
     let t = unit_above_is c.requires c.if-text-at-eq-MINUS.false c.read_number-above.ensures.value_value c.read_number-above.ensures.next_value
-    (to_z-of_z w32 c.coordinate_of-2.result (record { sfits = c.coordinate_of-2.type_inv }) ∙ c.coordinate_of-2.ensures) in
+    (to_z-of_z w32 c.coordinate_of-else-text-at-eq-MINUS.result (record { sfits = c.coordinate_of-else-text-at-eq-MINUS.type_inv }) ∙ c.coordinate_of-else-text-at-eq-MINUS.ensures) in
     record { value_value = t.0; next_value = t.1 }

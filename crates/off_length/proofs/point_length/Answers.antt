@@ -19,6 +19,5 @@ point_is : {x y z : ℕ} (ps : List ℤ) (v : ℕ)
 unfolding point_length coordinate_at
 point_is ps v e f g = omega (arith, e, f, g, ap (λ (i : ℕ). length (signed (get_or ps i (pos 0)) 0)) (sym (add-zero (v * 3))))
 
-pub returns : goal.returns
-returns c =
-    record { value = point_is c.args.positions.now c.args.v c.coordinate_length.ensures.value c.coordinate_length-2.ensures.value c.coordinate_length-3.ensures.value; upper_bound = omega (arith, c.coordinate_length.ensures.upper_bound, c.coordinate_length-2.ensures.upper_bound, c.coordinate_length-3.ensures.upper_bound) }
+pub returns-clause-value : goal.returns-clause-value
+returns-clause-value c = point_is _ _ c.coordinate_length.ensures.value c.coordinate_length-2.ensures.value c.coordinate_length-3.ensures.value

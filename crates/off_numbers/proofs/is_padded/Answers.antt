@@ -1,9 +1,13 @@
 -- `is_padded` meets its contract. Assumes nothing.
-use Rattle.off_numbers.proofs.Scanning.{padded_one, padded_more}
+use native.Mathlib.Omega.{arith}
+use Rattle.std.proofs.lemmas.Bool.Decides.{nat_tests}
+use Rattle.off_numbers.specs.Text.{padded}
 use Rattle.off_numbers.proofs.is_padded.Goals as goal
 
-pub returns-then-count-eq1 : goal.returns-then-count-eq1
-returns-then-count-eq1 c = padded_one _ _ _ c.if-count-eq1.true
+pub returns-then-count-ne1 : goal.returns-then-count-ne1
+unfolding padded
+returns-then-count-ne1 c = grind (arith, nat_tests)
 
-pub returns : goal.returns
-returns c = padded_more _ _ _ _ c.if-count-eq1.false c.byte_on.ensures.value
+pub returns-else-count-ne1 : goal.returns-else-count-ne1
+unfolding padded
+returns-else-count-ne1 c = grind (arith, nat_tests)

@@ -1,34 +1,14 @@
 -- `number_at` meets its contract. Assumes nothing.
 use mathlib.Core.Path.{sym, ◌∙◌}
 use native.Mathlib.Omega.{arith}
-use Rattle.off_numbers.proofs.Scanning.{number_empty, number_padded, number_beyond, number_other, number_is, byte_within}
+use Rattle.std.proofs.lemmas.Bool.Decides.{nat_tests}
+use Rattle.off_numbers.specs.Text.{after_at, is_number, number_at}
+use Rattle.off_numbers.proofs.Scanning.{byte_within}
 use Rattle.off_numbers.proofs.number_at.Goals as goal
 
 pub returns-then-count-eq0 : goal.returns-then-count-eq0
-returns-then-count-eq0 c = number_empty _ _ _ _ _ _ c.run_at-run.ensures c.if-count-eq0.true
-
-pub returns-then-is_padded : goal.returns-then-is_padded
-returns-then-is_padded c =
-    number_padded _ _ _ _ _ _ c.run_at-run.ensures c.if-count-eq0.false _
-    c.is_padded.ensures
-    c.if-is_padded.true
-
-pub returns-then-bound-value : goal.returns-then-bound-value
-returns-then-bound-value c =
-    number_beyond _ _ _ _ _ _ c.run_at-run.ensures c.if-count-eq0.false _
-    c.is_padded.ensures
-    c.if-is_padded.false
-    c.if-bound-value.true
-
-pub returns-then-byte_on-last : goal.returns-then-byte_on-last
-returns-then-byte_on-last c =
-    number_other _ _ _ _ _ _ c.run_at-run.ensures c.if-count-eq0.false _
-    c.is_padded.ensures
-    c.if-is_padded.false
-    c.if-bound-value.false
-    _
-    c.byte_on.ensures.value
-    c.if-byte_on-last.true
+unfolding number_at is_number
+returns-then-count-eq0 c = grind (arith, nat_tests)
 
 pub overflow_add-result : goal.overflow_add-result
 overflow_add-result c =
@@ -39,11 +19,5 @@ overflow_add-result-2 c =
     omega (arith, byte_within _ _ _ (sym c.byte_on.ensures.value ∙ c.if-byte_on-last.false) c.requires.last_nonzero)
 
 pub returns : goal.returns
-returns c =
-    number_is _ _ _ _ _ _ c.run_at-run.ensures c.if-count-eq0.false _
-    c.is_padded.ensures
-    c.if-is_padded.false
-    c.if-bound-value.false
-    _
-    c.byte_on.ensures.value
-    c.if-byte_on-last.false
+unfolding number_at is_number after_at
+returns c = grind (arith, nat_tests)

@@ -1,9 +1,5 @@
-use Prim.Native.Nat.{◌-◌, ◌≤◌}
 use Rattle.off_points.proofs.Pointing.{FilledTo}
 use Rattle.off_points.proofs.fill_points.Given as goal
 
 abbrev pub invariant-loop-v : goal.invariant-loop-v
-invariant-loop-v l = (l.v ≤ l.count) × FilledTo l.text l.initial.positions l.positions l.at l.v
-
-abbrev pub decreases-loop-v : goal.decreases-loop-v
-decreases-loop-v l = l.count - l.v
+invariant-loop-v l = FilledTo l.text l.initial.positions l.positions l.at l.v

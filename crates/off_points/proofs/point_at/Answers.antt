@@ -1,7 +1,6 @@
--- `point_at_lem` meets its contract. Assumes nothing.
-use mathlib.Core.Path.{◌∙◌}
-use mir.Syntax.{w32}
-use mir.ValLaws.{to_z-of_z}
+-- `point_at` meets its contract. Assumes nothing.
+use native.Mathlib.Omega.{arith}
+use Rattle.std.proofs.lemmas.Int.{ints}
 use Rattle.off_points.proofs.Pointing.{first_there, second_there, third_there, point_read}
 use Rattle.off_points.proofs.point_at.Goals as goal
 
@@ -16,8 +15,5 @@ read_unit-z-requires c = third_there c.requires c.read_unit-x.ensures.next_value
 
 pub returns : goal.returns
 returns c =
-    point_read c.requires c.read_unit-x.ensures.next_value c.read_unit-y.ensures.next_value
-    (to_z-of_z w32 c.read_unit-x.result.value (record { sfits = c.struct_told-1.given.0.1 }) ∙ c.read_unit-x.ensures.value_value)
-    (to_z-of_z w32 c.read_unit-y.result.value (record { sfits = c.struct_told-2-1.given.0.1 }) ∙ c.read_unit-y.ensures.value_value)
-    (to_z-of_z w32 c.read_unit-z.result.value (record { sfits = c.struct_told-3-1.given.0.1 }) ∙ c.read_unit-z.ensures.value_value)
+    point_read c.requires c.read_unit-x.ensures.next_value c.read_unit-y.ensures.next_value (grind (arith, ints)) (grind (arith, ints)) (grind (arith, ints))
     c.read_unit-z.ensures.next_value

@@ -1,17 +1,21 @@
 -- `past_unit` meets its contract. Assumes nothing.
-use Rattle.off_units.proofs.Passing.{minus_within, unit_minus, unit_plain}
+use mathlib.Core.Path.{sym, ◌∙◌}
+use Prim.Native.Nat.{◌+◌}
+use native.Mathlib.Omega.{arith}
+use Rattle.std.proofs.lemmas.Bool.Decides.{nat_tests}
+use Rattle.off_numbers.specs.Text.{minus_at, is_unit, after_unit, number_at}
+use Rattle.off_units.specs.Past.{past_unit}
+use Rattle.off_numbers.proofs.Scanning.{byte_within}
 use Rattle.off_units.proofs.past_unit.Goals as goal
 
-pub number_at-requires : goal.number_at-requires
-number_at-requires c =
-    record { at_in_bounds = minus_within _ _ _ c.byte_on.ensures.value c.if-byte_on-eq-MINUS.true; last_nonzero = c.requires.last_nonzero }
+pub number_at-requires-clause-at_in_bounds : goal.number_at-requires-clause-at_in_bounds
+number_at-requires-clause-at_in_bounds c =
+    omega (arith, byte_within _ (c.args.at + 0) 45 (sym c.byte_on.ensures.value ∙ c.if-byte_on-eq-MINUS.true) (omega arith))
 
 pub returns-then-byte_on-eq-MINUS : goal.returns-then-byte_on-eq-MINUS
-returns-then-byte_on-eq-MINUS c =
-    unit_minus _ _ _ c.byte_on.ensures.value _ _ _ c.if-byte_on-eq-MINUS.true
-    c.number_at.ensures c.past_number.ensures
+unfolding past_unit is_unit after_unit minus_at number_at
+returns-then-byte_on-eq-MINUS c = grind (arith, nat_tests)
 
-pub returns : goal.returns
-returns c =
-    unit_plain _ _ _ c.byte_on.ensures.value _ _ _ c.if-byte_on-eq-MINUS.false
-    c.number_at-2.ensures c.past_number-2.ensures
+pub returns-else-byte_on-eq-MINUS : goal.returns-else-byte_on-eq-MINUS
+unfolding past_unit is_unit after_unit minus_at number_at
+returns-else-byte_on-eq-MINUS c = grind (arith, nat_tests)

@@ -1,10 +1,7 @@
-use Prim.Native.Nat.{◌≤◌, ◌-◌}
-use lib.ListN.{length}
-use Rattle.off_walk.proofs.Following.{Best}
+use Prim.Native.Nat.{min}
+use Rattle.std.proofs.Common.{◌≡◌, take}
+use Rattle.std.specs.List.{fold}
 use Rattle.off_walk.proofs.smallest_of.Given as goal
 
-abbrev pub invariant-loop-i : goal.invariant-loop-i
-invariant-loop-i l = (l.i ≤ length l.from) × Best l.count l.from l.i l.best
-
-abbrev pub decreases-loop-i : goal.decreases-loop-i
-decreases-loop-i l = length l.from - l.i
+abbrev pub invariant-loop-u : goal.invariant-loop-u
+invariant-loop-u l = l.best ≡ fold min l.count (take l.u-index l.from)

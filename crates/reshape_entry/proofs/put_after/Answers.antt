@@ -2,7 +2,7 @@
 use mathlib.Core.Path.{◌∙◌, ap}
 use native.Mathlib.Omega.{arith}
 use Rattle.mesh.specs.Ring.{place}
-use Rattle.reshape_entry.proofs.EntryWritten.{ready_valence, ready_place, entry_put}
+use Rattle.reshape_entry.proofs.EntryWritten.{ready_valence, ready_place, put_accepted, entry_put}
 use Rattle.reshape_entry.proofs.put_after.Goals as goal
 
 pub overflow_add-i : goal.overflow_add-i
@@ -16,6 +16,9 @@ insert_at-requires c =
     let e = c.seek-i.ensures ∙ ap (place _) c.ring_of.ensures.result_value in
     let h = ready_place r _ e in
     record { editable = r.row; i_bound = omega arith; v_bound = ready_valence r; x_lt_place_bound = omega (arith, c.requires.x_lt_null_vertex) }
+
+pub unwrap-requires : goal.unwrap-requires
+unwrap-requires c = rw (c.insert_at.ensures.value ∙ put_accepted _ _ _ c.requires.ready _ _)
 
 pub returns : goal.returns
 returns c =

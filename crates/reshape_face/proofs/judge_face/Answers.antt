@@ -1,8 +1,7 @@
 -- `judge_face` meets its contract. Assumes nothing.
-use Rattle.rings.specs.Table.{lent}
 use Rattle.rings.proofs.Rows.{fit_row}
 use Rattle.reshape_room.proofs.CheckedTables.{in_table}
-use Rattle.reshape_face.proofs.FacesJudged.{Found, unknown_u, unknown_v, unknown_w, no_face_lem, face_found, full_u, full_v, full_w, free}
+use Rattle.reshape_face.proofs.FacesJudged.{unknown_u, unknown_v, unknown_w, no_face_lem, face_found, full_u, full_v, full_w, free}
 use Rattle.reshape_face.proofs.judge_face.Goals as goal
 
 pub returns-then-count-u : goal.returns-then-count-u
@@ -24,51 +23,44 @@ returns-then-not-follows_in c =
 
 pub is_full-requires : goal.is_full-requires
 is_full-requires c =
-    let found : let a = c.args in
-    Found a.count (lent a.valences.now a.rings.now) a.u a.v a.w = face_found _ _ _ _ _ c.requires c.if-count-u.false c.if-count-v.false c.if-count-w.false
+    let found = face_found _ _ _ _ _ c.requires c.if-count-u.false c.if-count-v.false c.if-count-w.false
     _ c.ring_of.ensures.result_value _ c.follows_in.ensures c.if-not-follows_in.false in
-    let f = found in in_table f.checked _ f.u_lt
+    in_table found.checked _ found.u_lt
 
 pub returns-then-is_full : goal.returns-then-is_full
 returns-then-is_full c =
-    let found : let a = c.args in
-    Found a.count (lent a.valences.now a.rings.now) a.u a.v a.w = face_found _ _ _ _ _ c.requires c.if-count-u.false c.if-count-v.false c.if-count-w.false
+    let found = face_found _ _ _ _ _ c.requires c.if-count-u.false c.if-count-v.false c.if-count-w.false
     _ c.ring_of.ensures.result_value _ c.follows_in.ensures c.if-not-follows_in.false in
     full_u _ _ _ _ _ found _ c.is_full.ensures c.if-is_full.true
 
 pub is_full-requires-2 : goal.is_full-requires-2
 is_full-requires-2 c =
-    let found : let a = c.args in
-    Found a.count (lent a.valences.now a.rings.now) a.u a.v a.w = face_found _ _ _ _ _ c.requires c.if-count-u.false c.if-count-v.false c.if-count-w.false
+    let found = face_found _ _ _ _ _ c.requires c.if-count-u.false c.if-count-v.false c.if-count-w.false
     _ c.ring_of.ensures.result_value _ c.follows_in.ensures c.if-not-follows_in.false in
-    let f = found in in_table f.checked _ f.v_lt
+    in_table found.checked _ found.v_lt
 
 pub returns-then-is_full-2 : goal.returns-then-is_full-2
 returns-then-is_full-2 c =
-    let found : let a = c.args in
-    Found a.count (lent a.valences.now a.rings.now) a.u a.v a.w = face_found _ _ _ _ _ c.requires c.if-count-u.false c.if-count-v.false c.if-count-w.false
+    let found = face_found _ _ _ _ _ c.requires c.if-count-u.false c.if-count-v.false c.if-count-w.false
     _ c.ring_of.ensures.result_value _ c.follows_in.ensures c.if-not-follows_in.false in
     full_v _ _ _ _ _ found _ c.is_full.ensures c.if-is_full.false _ c.is_full-2.ensures c.if-is_full-2.true
 
 pub is_full-requires-3 : goal.is_full-requires-3
 is_full-requires-3 c =
-    let found : let a = c.args in
-    Found a.count (lent a.valences.now a.rings.now) a.u a.v a.w = face_found _ _ _ _ _ c.requires c.if-count-u.false c.if-count-v.false c.if-count-w.false
+    let found = face_found _ _ _ _ _ c.requires c.if-count-u.false c.if-count-v.false c.if-count-w.false
     _ c.ring_of.ensures.result_value _ c.follows_in.ensures c.if-not-follows_in.false in
-    let f = found in in_table f.checked _ f.w_lt
+    in_table found.checked _ found.w_lt
 
 pub returns-then-is_full-3 : goal.returns-then-is_full-3
 returns-then-is_full-3 c =
-    let found : let a = c.args in
-    Found a.count (lent a.valences.now a.rings.now) a.u a.v a.w = face_found _ _ _ _ _ c.requires c.if-count-u.false c.if-count-v.false c.if-count-w.false
+    let found = face_found _ _ _ _ _ c.requires c.if-count-u.false c.if-count-v.false c.if-count-w.false
     _ c.ring_of.ensures.result_value _ c.follows_in.ensures c.if-not-follows_in.false in
     full_w _ _ _ _ _ found _ c.is_full.ensures c.if-is_full.false
     _ c.is_full-2.ensures c.if-is_full-2.false _ c.is_full-3.ensures c.if-is_full-3.true
 
 pub returns : goal.returns
 returns c =
-    let found : let a = c.args in
-    Found a.count (lent a.valences.now a.rings.now) a.u a.v a.w = face_found _ _ _ _ _ c.requires c.if-count-u.false c.if-count-v.false c.if-count-w.false
+    let found = face_found _ _ _ _ _ c.requires c.if-count-u.false c.if-count-v.false c.if-count-w.false
     _ c.ring_of.ensures.result_value _ c.follows_in.ensures c.if-not-follows_in.false in
     free _ _ _ _ _ found _ c.is_full.ensures c.if-is_full.false
     _ c.is_full-2.ensures c.if-is_full-2.false _ c.is_full-3.ensures c.if-is_full-3.false

@@ -1,4 +1,3 @@
-use Prim.Native.Nat.{suc, ◌-◌, ◌≤◌}
 use Rattle.mesh.proofs.First.{Clear}
 use Rattle.steps.specs.Sizes.{closed_sizes}
 use Rattle.stack_judge.specs.Stack.{too_large}
@@ -6,7 +5,7 @@ use Rattle.stack_judge.proofs.Sizes.{Sized}
 use Rattle.stack_judge.proofs.first_too_large.Given as goal
 
 abbrev pub invariant-loop-k : goal.invariant-loop-k
-invariant-loop-k l = (l.k ≤ suc l.levels) × (Sized (closed_sizes l.count l.edges) l.k l.level × Clear (too_large (closed_sizes l.count l.edges)) l.k)
-
-abbrev pub decreases-loop-k : goal.decreases-loop-k
-decreases-loop-k l = suc l.levels - l.k
+invariant-loop-k l = record {
+  sized : Sized (closed_sizes l.count l.edges) l.k l.level;
+  small : Clear (too_large (closed_sizes l.count l.edges)) l.k;
+}

@@ -1,9 +1,13 @@
 -- `is_bad_levels` meets its contract. Assumes nothing.
-use Rattle.stack_judge.proofs.Judged.{levels_low, levels_rest}
+use borrow.Author.Rules.{rules}
+use borrow.Author.Tests.{tests}
+use Rattle.stack_judge.specs.Stack.{bad_levels}
 use Rattle.stack_judge.proofs.is_bad_levels.Goals as goal
 
 pub returns-then-levels-lt-LEAST_LEVELS : goal.returns-then-levels-lt-LEAST_LEVELS
-returns-then-levels-lt-LEAST_LEVELS c = search levels_low
+unfolding bad_levels
+returns-then-levels-lt-LEAST_LEVELS c = search (rules, tests)
 
-pub returns : goal.returns
-returns c = search levels_rest
+pub returns-else-levels-lt-LEAST_LEVELS : goal.returns-else-levels-lt-LEAST_LEVELS
+unfolding bad_levels
+returns-else-levels-lt-LEAST_LEVELS c = search (rules, tests)

@@ -1,12 +1,13 @@
 -- `is_short_stack` meets its contract. Assumes nothing.
-use Rattle.stack_judge.proofs.Judged.{short_first, short_second, short_third}
+use native.Mathlib.Omega.{arith}
+use Rattle.std.proofs.lemmas.Bool.Decides.{nat_tests}
+use Rattle.stack_judge.specs.Stack.{short_stack}
 use Rattle.stack_judge.proofs.is_short_stack.Goals as goal
 
-pub returns-then-valences-n : goal.returns-then-valences-n
-returns-then-valences-n c = search short_first
-
 pub returns-then-rings-n : goal.returns-then-rings-n
-returns-then-rings-n c = search short_second
+unfolding short_stack
+returns-then-rings-n c = grind (arith, nat_tests)
 
-pub returns : goal.returns
-returns c = search short_third
+pub returns-else-rings-n : goal.returns-else-rings-n
+unfolding short_stack
+returns-else-rings-n c = grind (arith, nat_tests)

@@ -1,25 +1,10 @@
 -- `is_open` meets its contract. Assumes nothing.
-use mathlib.Core.Path.{sym, ◌∙◌}
-use Rattle.mesh.specs.Tests.{open_faced}
-use Rattle.mesh.proofs.First.{clear_none, clear_more}
-use Rattle.rings.proofs.Rows.{fit_most, row_some_is, row_some_end}
-use native.Mathlib.Omega.{arith}
 use borrow.Author.Rules.{rules}
+use Rattle.mesh.specs.Tests.{open_faced}
+use Rattle.mesh.proofs.Searches.{some_found}
+use Rattle.rings.proofs.Rows.{row_some}
 use Rattle.check_rings.proofs.search.is_open.Goals as goal
-
-pub overflow_cast-n : goal.overflow_cast-n
-overflow_cast-n c = omega (arith, c.type_inv.valences c.args.v)
-
-pub loop-i-init : goal.loop-i-init
-loop-i-init c = (search rules, fit_most c.requires.fit c.requires.v_lt_count, clear_none)
-
-pub returns-then-open_at : goal.returns-then-open_at
-unfolding open_faced
-returns-then-open_at c = search (row_some_is, sym c.open_at.ensures ∙ c.if-open_at.true)
-
-pub loop-i-preserved : goal.loop-i-preserved
-loop-i-preserved c = (search rules, search rules, search (clear_more, sym c.open_at.ensures ∙ c.if-open_at.false))
 
 pub returns : goal.returns
 unfolding open_faced
-returns c = search row_some_end
+returns c = row_some c.requires.fit c.requires.v_lt_count _ _ (some_found _ _ _ _ _ c.any.ensures.ran (λ x b q k. search rules))

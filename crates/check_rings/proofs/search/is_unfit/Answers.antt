@@ -1,13 +1,13 @@
 -- `is_unfit` meets its contract. Assumes nothing.
-use Rattle.rings.proofs.Rows.{unfit_under, unfit_rest}
-use native.Mathlib.Omega.{arith}
+use borrow.Author.Rules.{rules}
+use borrow.Author.Tests.{tests}
+use Rattle.rings.specs.Check.{unfit_row}
 use Rattle.check_rings.proofs.search.is_unfit.Goals as goal
 
-pub overflow_cast-valences : goal.overflow_cast-valences
-overflow_cast-valences c = omega (arith, c.type_inv.valences c.args.v)
-
 pub returns-then-valences-v-lt-LEAST_VALENCE : goal.returns-then-valences-v-lt-LEAST_VALENCE
-returns-then-valences-v-lt-LEAST_VALENCE c = search unfit_under
+unfolding unfit_row
+returns-then-valences-v-lt-LEAST_VALENCE c = search (rules, tests)
 
-pub returns : goal.returns
-returns c = search unfit_rest
+pub returns-else-valences-v-lt-LEAST_VALENCE : goal.returns-else-valences-v-lt-LEAST_VALENCE
+unfolding unfit_row
+returns-else-valences-v-lt-LEAST_VALENCE c = search (rules, tests)

@@ -1,8 +1,7 @@
 -- `four_at` meets its contract. Assumes nothing.
 use native.Mathlib.Omega.{arith}
-use Rattle.file_format.proofs.Numbers.{four_is}
+use Rattle.file_format.proofs.Numbers.{number_four}
 use Rattle.file_format.proofs.bytes.four_at.Goals as goal
 
-pub returns : goal.returns
-returns c =
-    record { value = four_is _ _ c.requires c.two_at.ensures.value c.two_at-2.ensures.value; upper_bound = omega arith }
+pub returns-clause-value : goal.returns-clause-value
+returns-clause-value c = omega (arith, number_four _ _ c.requires, c.from_le_bytes.ensures)

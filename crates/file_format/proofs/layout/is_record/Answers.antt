@@ -1,13 +1,17 @@
 -- `is_record` meets its contract. Assumes nothing.
-use mathlib.Core.Path.{sym, ◌∙◌}
-use Rattle.file_format.proofs.Finding.{found_cut, found_other, found_same}
+use native.Mathlib.Omega.{arith}
+use Rattle.std.proofs.lemmas.Grind.{common_steps}
+use Rattle.file_format.proofs.Finding.{by_found}
 use Rattle.file_format.proofs.layout.is_record.Goals as goal
 
-pub returns-then-kind-wanted : goal.returns-then-kind-wanted
-returns-then-kind-wanted c = found_other _ _ _ _ (sym c.in-Whole.is ∙ c.record_at.ensures) c.if-kind-wanted.true
+pub returns-in-Some : goal.returns-in-Some
+returns-in-Some c = grind (arith, common_steps, by_found _ _ c.args.wanted c.args.size _ c.in-Some.ensures)
 
-pub returns-else-kind-wanted : goal.returns-else-kind-wanted
-returns-else-kind-wanted c = found_same _ _ _ _ (sym c.in-Whole.is ∙ c.record_at.ensures) c.if-kind-wanted.false
+pub returns-in_default : goal.returns-in_default
+returns-in_default c = grind (arith, common_steps, by_found _ _ c.args.wanted c.args.size _ c.in-Some.ensures)
 
-pub returns-in-Cut : goal.returns-in-Cut
-returns-in-Cut c = found_cut _ _ _ _ (sym c.in-Cut.is ∙ c.record_at.ensures)
+pub returns-in_default-2 : goal.returns-in_default-2
+returns-in_default-2 c = grind (arith, common_steps, by_found _ _ c.args.wanted c.args.size _ c.in-Some.ensures)
+
+pub returns-in_default-3 : goal.returns-in_default-3
+returns-in_default-3 c = grind (arith, common_steps, by_found _ _ c.args.wanted c.args.size _ c.in_default.ensures)

@@ -1,10 +1,7 @@
 -- `place_after` meets its contract. Assumes nothing.
-use mathlib.Core.Path.{sym, ◌∙◌}
-use Rattle.file_format.proofs.Finding.{past_found}
+use borrow.Author.Rules.{rules}
+use Rattle.file_format.proofs.Finding.{told_past}
 use Rattle.file_format.proofs.records.place_after.Goals as goal
 
-pub returns-in-Whole : goal.returns-in-Whole
-returns-in-Whole c = past_found _ _ _ (sym c.in-Whole.is ∙ c.record_at.ensures)
-
-pub returns-in-Cut : goal.returns-in-Cut
-returns-in-Cut c = past_found _ _ _ (sym c.in-Cut.is ∙ c.record_at.ensures)
+pub returns : goal.returns
+returns c = told_past _ _ _ _ _ c.record_at.ensures c.map_or.ensures (λ r h. search rules)

@@ -6,7 +6,11 @@ use Rattle.file_rings.specs.Neighbours.{neighbour_bytes}
 use Rattle.file_rings.proofs.writing.write_fours.Given as goal
 
 abbrev pub invariant-loop-i : goal.invariant-loop-i
-invariant-loop-i l = (l.i + 4 ≤ length l.ring) × ((l.i % 4 ≡ 0) × ((length l.file ≡ length l.initial.file) × Put l.initial.file (l.at + 8) (gather_from (neighbour_bytes l.ring) 4 l.i) l.file))
+invariant-loop-i l = record {
+  most : l.i ≤ length l.ring;
+  whole : l.i % 4 ≡ 0;
+  put : Put l.initial.file (l.at + 8) (gather_from (neighbour_bytes l.ring) 4 (l.i - 4)) l.file;
+}
 
 abbrev pub decreases-loop-i : goal.decreases-loop-i
 decreases-loop-i l = length l.ring - l.i

@@ -1,11 +1,11 @@
-use lib.ListN.{length, take}
+use lib.ListN.{take}
 use Rattle.rings.specs.Table.{coordinate_at}
 use Rattle.loop_points.specs.Level.{SumOf}
-use Prim.Native.Nat.{◌≤◌, ◌-◌}
 use Rattle.loop_points.proofs.points.ring_sums.Given as goal
 
-abbrev pub invariant-loop-i : goal.invariant-loop-i
-invariant-loop-i l = (l.i ≤ length l.ring) × SumOf (take l.i l.ring) (coordinate_at l.positions 0) l.x × SumOf (take l.i l.ring) (coordinate_at l.positions 1) l.y × SumOf (take l.i l.ring) (coordinate_at l.positions 2) l.z
-
-abbrev pub decreases-loop-i : goal.decreases-loop-i
-decreases-loop-i l = length l.ring - l.i
+abbrev pub invariant-loop-u : goal.invariant-loop-u
+invariant-loop-u l = record {
+  x : SumOf (take l.u-index l.ring) (coordinate_at l.positions 0) l.x;
+  y : SumOf (take l.u-index l.ring) (coordinate_at l.positions 1) l.y;
+  z : SumOf (take l.u-index l.ring) (coordinate_at l.positions 2) l.z;
+}

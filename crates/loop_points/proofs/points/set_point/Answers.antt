@@ -1,17 +1,9 @@
 -- `set_point` meets its contract. Assumes nothing.
-use native.Mathlib.Omega.{arith}
-use lib.ListN.{length-set}
 use Prim.Native.Nat.{◌*◌}
 use mir.Syntax.{w32}
 use mir.ValLaws.{to_z-of_z}
 use Rattle.loop_points.proofs.PointSums.{put_point}
 use Rattle.loop_points.proofs.points.set_point.Goals as goal
-
-pub bounds-positions-a-2 : goal.bounds-positions-a-2
-bounds-positions-a-2 c = simp length-set (omega arith)
-
-pub bounds-positions-a-3 : goal.bounds-positions-a-3
-bounds-positions-a-3 c = simp length-set (omega arith)
 
 pub returns : goal.returns
 returns c =

@@ -70,9 +70,6 @@ returns-then-p-q c =
     (numbered r p k h l _ e c.if-p-q.true _ t _ _ _ c.requires.start_value c.count_below.ensures.value c.requires.low_value).1 in
     record { value = t.0; upper_bound = t.1 }
 
-pub overflow_cast-q-2 : goal.overflow_cast-q-2
-overflow_cast-q-2 c = omega (arith, c.shared_slice_known-3-1.given c.args.k)
-
 pub ring_of-requires : goal.ring_of-requires
 ring_of-requires c =
     let r = c.requires.ready in
@@ -94,9 +91,6 @@ seek_known-j-requires c =
     let t = row_is_ring (lent c.args.valences.now c.args.rings.now) p c.args.n c.requires.n_value c.row_of-ring.ensures.result_value in
     let e = ap (λ (x : List ℕ). get_or x k 0) t in
     subst (λ (x : List ℕ). p ∈ x) (sym c.ring_of.ensures.result_value) (p_there r p k h l _ e)
-
-pub overflow_cast-result : goal.overflow_cast-result
-overflow_cast-result c = omega (arith, c.shared_slice_known-3-1.given c.args.k)
 
 pub overflow_add-result-3 : goal.overflow_add-result-3
 overflow_add-result-3 c =

@@ -1,7 +1,7 @@
 -- `write_old_ring` meets its contract. Assumes nothing.
 use Prim.Native.Nat.{suc, ◌≤◌}
-use mathlib.Core.Path.{refl, sym, ap, ◌∙◌}
-use lib.ListN.{get_or, length-set}
+use mathlib.Core.Path.{sym, ap, ◌∙◌}
+use lib.ListN.{get_or}
 use native.Mathlib.Omega.{arith}
 use Rattle.mesh.specs.Numbering.{below}
 use Rattle.rings.proofs.Tables.{put_nothing}
@@ -10,15 +10,15 @@ use Rattle.loop_sweep.proofs.Whole.{part_ring, old_end_at}
 use Rattle.loop_sweep.proofs.vertices.write_old_ring.Goals as goal
 
 pub loop-k-init : goal.loop-k-init
-loop-k-init c = (omega arith, (refl, sym (put_nothing _ _)))
+loop-k-init c = sym (put_nothing _ _)
 
 pub middle_of-requires : goal.middle_of-requires
 middle_of-requires c =
     let inv = c.loop-k.invariant in
     let l = c.loop-k-test.true in
     let b : c.loop-k.k ≤ get_or c.args.valences.now c.args.p 0 = omega arith in
-    let a = old_asks c.requires.ready c.requires.p_lt_count b inv.1.1 (omega arith) _ c.requires.start_value c.requires.has_old in
-    let e = part_ring c.requires.ready c.args.p c.loop-k.k c.requires.p_lt_count (omega arith) inv.1.1 in
+    let a = old_asks c.requires.ready c.requires.p_lt_count b inv (omega arith) _ c.requires.start_value c.requires.has_old in
+    let e = part_ring c.requires.ready c.args.p c.loop-k.k c.requires.p_lt_count (omega arith) inv in
     record { ready = a.0; p_lt_count = c.requires.p_lt_count; n_value = c.requires.n_value; k_lt_n = l; start_value = a.1.1.1.0; low_value = c.requires.low_value ∙ ap (below (suc c.args.p)) (sym e); has_old = a.1.1.1.1 }
 
 pub overflow_cast-rings : goal.overflow_cast-rings
@@ -33,15 +33,12 @@ offset_bounds-rings-a c = omega (arith, c.requires.ready.most _ c.requires.p_lt_
 pub bounds-rings-a : goal.bounds-rings-a
 bounds-rings-a c = omega (arith, c.requires.ready.most _ c.requires.p_lt_count)
 
-pub overflow_add-k : goal.overflow_add-k
-overflow_add-k c = omega (arith, c.requires.ready.most _ c.requires.p_lt_count)
-
 pub loop-k-preserved : goal.loop-k-preserved
 loop-k-preserved c =
     let inv = c.loop-k.invariant in
     let l = c.loop-k-test.true in
     let b : c.loop-k.k ≤ get_or c.args.valences.now c.args.p 0 = omega arith in
-    (omega arith, ((simp length-set) ∙ inv.1.0, old_step c.requires.ready c.requires.p_lt_count b inv.1.1 (omega arith) _ c.middle_of.ensures.value))
+    old_step c.requires.ready c.requires.p_lt_count b inv (omega arith) _ c.middle_of.ensures.value
 
 pub write_unused-requires : goal.write_unused-requires
 write_unused-requires c =
@@ -50,4 +47,4 @@ write_unused-requires c =
 pub returns : goal.returns
 returns c =
     let inv = c.loop-k.invariant in
-    old_end_at c.requires.ready c.args.p c.requires.p_lt_count c.args.n c.requires.n_value c.loop-k.k (omega arith) inv.1.1 c.loop-k-test.false c.write_unused.ensures
+    old_end_at c.requires.ready c.args.p c.requires.p_lt_count c.args.n c.requires.n_value c.loop-k.k (omega arith) inv c.loop-k-test.false c.write_unused.ensures

@@ -1,12 +1,8 @@
-use Prim.Native.Nat.{◌-◌, ◌≤◌}
 use mathlib.Core.Path.{◌≡◌}
-use lib.ListN.{length, take}
+use lib.ListN.{take}
 use Rattle.loop_step.specs.Refine.{old_ring}
 use Rattle.rings.specs.Table.{lent, put, rows}
 use Rattle.loop_sweep.proofs.vertices.write_old_ring.Given as goal
 
 abbrev pub invariant-loop-k : goal.invariant-loop-k
-invariant-loop-k l = (l.k ≤ l.n) × ((length l.rings ≡ length l.initial.rings) × (l.rings ≡ put l.initial.rings l.a (take l.k (old_ring (rows l.count (lent l.valences l.initial.rings)) l.p))))
-
-abbrev pub decreases-loop-k : goal.decreases-loop-k
-decreases-loop-k l = l.n - l.k
+invariant-loop-k l = l.rings ≡ put l.initial.rings l.a (take l.k (old_ring (rows l.count (lent l.valences l.initial.rings)) l.p))

@@ -1,4 +1,3 @@
-use Prim.Native.Nat.{◌-◌, ◌≤◌}
 use mathlib.Core.Path.{◌≡◌}
 use Rattle.rings.specs.Table.{lent}
 use Rattle.loop_points.specs.Level.{start_of}
@@ -6,7 +5,7 @@ use Rattle.loop_sweep.proofs.Done.{Done}
 use Rattle.loop_sweep.proofs.write.write_old.Given as goal
 
 abbrev pub invariant-loop-p : goal.invariant-loop-p
-invariant-loop-p l = (l.p ≤ l.count) × (l.start ≡ start_of l.count (lent l.initial.valences l.initial.rings) l.p) × Done l.count l.p (lent l.initial.valences l.initial.rings) l.initial.positions (lent l.valences l.rings) l.positions
-
-abbrev pub decreases-loop-p : goal.decreases-loop-p
-decreases-loop-p l = l.count - l.p
+invariant-loop-p l = record {
+  counted : l.start ≡ start_of l.count (lent l.initial.valences l.initial.rings) l.p;
+  done : Done l.count l.p (lent l.initial.valences l.initial.rings) l.initial.positions (lent l.valences l.rings) l.positions;
+}

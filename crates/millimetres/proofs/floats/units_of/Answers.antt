@@ -7,13 +7,14 @@ use lib.Ieee.{Float, binary64, neg, of_bits, to_bits}
 use lib.Ieee.Bits.{of_bits-to_bits}
 use Rattle.millimetres.specs.Millimetres.{inside, units_of, units_answer}
 use Rattle.units.proofs.Coordinates.{there}
-use Rattle.millimetres.specs.declared.UnitsAnswer.TheVariants.{Units, ControlCoordinate}
+use Rattle.std.proofs.Common.{Some, None}
 use Rattle.millimetres.proofs.FloatsInUnits.{inside_yes, inside_low, inside_high, inside_no_nan}
 use Rattle.millimetres.proofs.floats.units_of.Goals as goal
+use Rattle.millimetres.proofs.floats.units_of.Goals.{else-x-via-then-x+else-x-2, else-x-via-else-x}
 
-by_test : (x : Float) (b : Bool) → inside x ≡ b → units_answer x ≡ cond b (Units (units_of x)) ControlCoordinate
+by_test : (x : Float) (b : Bool) → inside x ≡ b → units_answer x ≡ cond b (Some (units_of x)) None
 unfolding units_answer
-by_test x b e = ap (λ (t : Bool). cond t (Units (units_of x)) ControlCoordinate) e
+by_test x b e = ap (λ (t : Bool). cond t (Some (units_of x)) None) e
 
 pub float_to_bits-x : goal.float_to_bits-x
 unfolding of_bits neg
@@ -34,13 +35,13 @@ returns-then-x-2 c =
     let passed : inside c.args.x ≡ true = inside_yes c.args.x c.if-x.true c.if-x-2.true in
     let back : of_bits binary64 (to_bits binary64 c.args.x) ≡ c.args.x = of_bits-to_bits binary64 c.args.x (search rules) in
     let x = c.args.x in
-    ap Units (there c.units_of_bits.result c.units_of_bits.ensures.1 ∙ c.units_of_bits.ensures.0 ∙ ap units_of back)
+    ap Some (there c.units_of_bits.result c.units_of_bits.ensures.1 ∙ c.units_of_bits.ensures.0 ∙ ap units_of back)
     ∙ sym (by_test x true passed)
-
-pub returns-else-x-2 : goal.returns-else-x-2
-unfolding of_bits
-returns-else-x-2 c = sym (by_test c.args.x false (inside_high c.args.x c.if-x-2.false))
 
 pub returns-else-x : goal.returns-else-x
 unfolding of_bits neg
-returns-else-x c = sym (by_test c.args.x false (inside_low c.args.x c.if-x.false))
+returns-else-x c =
+    elim c.else-x.branch [
+      | else-x-via-else-x w ↦ sym (by_test c.args.x false (inside_low c.args.x w.if-x.false))
+      | else-x-via-then-x+else-x-2 w ↦ sym (by_test c.args.x false (inside_high c.args.x w.if-x-2.false))
+    ]

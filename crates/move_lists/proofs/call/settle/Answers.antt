@@ -1,27 +1,23 @@
 -- `settle` meets its contract. Assumes nothing.
-use mathlib.Core.Path.{◌≡◌, sym, ◌∙◌}
-use Rattle.rings.specs.declared.Verdict.TheVariants.{Accepted}
-use Rattle.move_lists.specs.Apply.{before_moves}
+use mathlib.Core.Path.{sym}
 use Rattle.move_lists.proofs.Settled.{settle_stopped, settle_unplanned, settle_done}
-use lib.ListN.{length}
-use Rattle.rings.specs.Table.{lent}
+use Rattle.rings.proofs.Verdicts.{handed_on}
 use Rattle.move_lists.proofs.call.settle.Goals as goal
 
-pub returns-in-Refused : goal.returns-in-Refused
-returns-in-Refused c = settle_stopped _ _ _ _ _ _ _ (sym c.in-Refused.is ∙ c.judge_before.ensures)
+pub returns-in_err-judge_before : goal.returns-in_err-judge_before
+returns-in_err-judge_before c =
+    let t = settle_stopped _ _ _ _ _ _ _ c.in_err-judge_before.ensures in
+    (handed_on c.from_residual.ensures t.0, t.1, t.2)
 
 pub carry_out-requires : goal.carry_out-requires
-carry_out-requires c =
-    let accepted : let a = c.args in Accepted ≡ before_moves a.plan.count a.levels (lent a.valences.now a.rings.now) a.positions.now (length a.map.now) a.moves = sym c.in_default.is ∙ c.judge_before.ensures in
-    record { fair = c.requires; moves_value = sym accepted }
+carry_out-requires c = record { fair = c.requires; moves_value = sym c.in_ok-judge_before.ensures }
 
-pub returns-in-Refused-verdict : goal.returns-in-Refused-verdict
-returns-in-Refused-verdict c =
-    let accepted : let a = c.args in Accepted ≡ before_moves a.plan.count a.levels (lent a.valences.now a.rings.now) a.positions.now (length a.map.now) a.moves = sym c.in_default.is ∙ c.judge_before.ensures in
-    settle_unplanned _ _ _ _ _ _ accepted _ c.in-Refused-verdict.is
+pub returns-in_err-plan : goal.returns-in_err-plan
+returns-in_err-plan c =
+    let t = settle_unplanned _ _ _ _ _ _ c.in_ok-judge_before.ensures _ c.in_err-plan.was in
+    (handed_on c.from_residual-in_err-plan.ensures t.0, t.1, t.2)
 
-pub returns-in-Accepted : goal.returns-in-Accepted
-returns-in-Accepted c =
-    let accepted : let a = c.args in Accepted ≡ before_moves a.plan.count a.levels (lent a.valences.now a.rings.now) a.positions.now (length a.map.now) a.moves = sym c.in_default.is ∙ c.judge_before.ensures in
-    settle_done _ _ _ _ _ _ accepted
-    c.in-Accepted.is _ _ _ c.carry_out.ensures.value c.carry_out.ensures.positions_after c.carry_out.ensures.map_after
+pub returns : goal.returns
+returns c =
+    settle_done _ _ _ _ _ _ c.in_ok-judge_before.ensures c.in_ok-plan.was _ _ _
+    c.carry_out.ensures.value c.carry_out.ensures.positions_after c.carry_out.ensures.map_after

@@ -1,12 +1,11 @@
-use Prim.Native.Nat.{◌≤◌, ◌-◌}
-use lib.ListN.{take, length}
+-- The entries so far are laid over the positions, and their vertices are marked.
+use Rattle.std.proofs.Common.{◌≡◌, take}
 use Rattle.move_map.specs.Map.{marked}
-use mathlib.Core.Path.{◌≡◌}
 use Rattle.move_plan.specs.Plan.{laid, with_named}
 use Rattle.move_lists.proofs.control.write_control.Given as goal
 
-abbrev pub invariant-loop-k : goal.invariant-loop-k
-invariant-loop-k l = (l.k ≤ l.taken) × ((length l.positions ≡ length l.initial.positions) × ((length l.map ≡ length l.initial.map) × ((l.positions ≡ laid l.initial.positions (take l.k l.entries)) × (marked l.map ≡ with_named (marked l.initial.map) (take l.k l.entries)))))
-
-abbrev pub decreases-loop-k : goal.decreases-loop-k
-decreases-loop-k l = l.taken - l.k
+abbrev pub invariant-loop-entry : goal.invariant-loop-entry
+invariant-loop-entry l = record {
+  points : l.positions ≡ laid l.initial.positions (take l.entry-index l.entry-items);
+  marks : marked l.map ≡ with_named (marked l.initial.map) (take l.entry-index l.entry-items);
+}

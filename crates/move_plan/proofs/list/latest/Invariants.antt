@@ -1,11 +1,7 @@
-use lib.ListN.{take}
-use mathlib.Core.Path.{◌≡◌}
+-- The point is that of the latest of the entries so far with v, or the point to start from.
+use Rattle.std.proofs.Common.{◌≡◌, take}
 use Rattle.move_plan.specs.Plan.{latest_point}
-use Prim.Native.Nat.{◌≤◌, ◌-◌}
 use Rattle.move_plan.proofs.list.latest.Given as goal
 
-abbrev pub invariant-loop-k : goal.invariant-loop-k
-invariant-loop-k l = (l.k ≤ l.taken) × (l.point ≡ latest_point (take l.k l.entries) l.v l.initial.point)
-
-abbrev pub decreases-loop-k : goal.decreases-loop-k
-decreases-loop-k l = l.taken - l.k
+abbrev pub invariant-loop-entry : goal.invariant-loop-entry
+invariant-loop-entry l = l.point ≡ latest_point (take l.entry-index l.entry-items) l.v l.initial.point

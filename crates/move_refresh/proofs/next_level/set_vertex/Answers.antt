@@ -5,16 +5,9 @@ use Rattle.move_touched.proofs.Renewed.{point_set_lem}
 use Rattle.move_refresh.proofs.NewPoints.{mask_is, new_ready}
 use Rattle.move_refresh.proofs.next_level.set_vertex.Goals as goal
 
-pub set_old-requires : goal.set_old-requires
-set_old-requires c =
-    record { levels = c.requires.levels; v_lt_count = c.if-x-count.true }
-
 pub set_new-requires : goal.set_new-requires
 set_new-requires c =
     new_ready c.requires.levels.ready c.requires.next_rings c.args.x c.if-x-count.false c.requires.x_bound c.requires.levels
-
-pub returns-then-x-count : goal.returns-then-x-count
-returns-then-x-count c = c.set_old.ensures
 
 pub returns-else-x-count : goal.returns-else-x-count
 unfolding rows

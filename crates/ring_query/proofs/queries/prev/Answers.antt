@@ -1,21 +1,15 @@
 -- `prev` meets its contract. Assumes nothing.
-use mathlib.Core.Path.{sym, ◌∙◌}
+use borrow.Author.Rules.{rules}
 use Rattle.ring_judge.proofs.Judged.{called}
-use Rattle.ring_query.proofs.QueryAnswers.{prev_refused, prev_told, prev_missing}
+use Rattle.rings.proofs.Verdicts.{handed_on}
+use Rattle.ring_query.proofs.QueryAnswers.{prev_refused, prev_told}
 use Rattle.ring_query.proofs.queries.prev.Goals as goal
 
 pub ring_of-requires : goal.ring_of-requires
-ring_of-requires c = (called _ _ _ (sym c.in-Accepted.is ∙ c.judge_call.ensures)).row
+ring_of-requires c = (called _ _ _ c.in_ok-judge_call.ensures).row
 
-pub returns-in-Refused : goal.returns-in-Refused
-returns-in-Refused c = prev_refused _ _ _ _ _ (sym c.in-Refused.is ∙ c.judge_call.ensures)
+pub returns-in_err-judge_call : goal.returns-in_err-judge_call
+returns-in_err-judge_call c = handed_on c.from_residual.ensures (prev_refused _ _ _ _ _ c.in_err-judge_call.ensures)
 
-pub returns-in-At : goal.returns-in-At
-returns-in-At c =
-    prev_told _ _ _ (sym c.in-Accepted.is ∙ c.judge_call.ensures) _ _ c.ring_of.ensures.result_value
-    (sym c.in-At.is ∙ c.before_in.ensures)
-
-pub returns-in-Absent : goal.returns-in-Absent
-returns-in-Absent c =
-    prev_missing _ _ _ (sym c.in-Accepted.is ∙ c.judge_call.ensures) _ _ c.ring_of.ensures.result_value
-    (sym c.in-Absent.is ∙ c.before_in.ensures)
+pub returns : goal.returns
+returns c = prev_told _ _ _ c.in_ok-judge_call.ensures _ _ c.ring_of.ensures.result_value (search rules)

@@ -1,4 +1,3 @@
-use Prim.Native.Nat.{◌≤◌, ◌-◌}
 use mathlib.Core.Path.{◌≡◌}
 use lib.ListN.{get_or, take}
 use Rattle.mesh.specs.Edits.{opened}
@@ -6,7 +5,7 @@ use Rattle.rings.proofs.Rewrite.{Written}
 use Rattle.ring_row.proofs.row.open_up.Given as goal
 
 abbrev pub invariant-loop-k : goal.invariant-loop-k
-invariant-loop-k l = (l.i ≤ l.k) × (l.k ≤ l.n) × (l.carry ≡ get_or (opened (take l.n l.initial.row) l.i l.x) l.k 0) × Written (opened (take l.n l.initial.row) l.i l.x) l.initial.row l.k l.row
-
-abbrev pub decreases-loop-k : goal.decreases-loop-k
-decreases-loop-k l = l.n - l.k
+invariant-loop-k l = record {
+  carried : l.carry ≡ get_or (opened (take l.n l.initial.row) l.i l.x) l.k 0;
+  written : Written (opened (take l.n l.initial.row) l.i l.x) l.initial.row l.k l.row;
+}

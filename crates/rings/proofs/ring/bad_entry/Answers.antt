@@ -1,12 +1,13 @@
 -- `bad_entry` meets its contract. Assumes nothing.
-use Rattle.mesh.proofs.Places.{bad_vertex_lem, bad_self, bad_repeat}
+use native.Mathlib.Omega.{arith}
+use Rattle.std.proofs.lemmas.Bool.Decides.{nat_tests}
+use Rattle.mesh.specs.Tests.{repeat_at, bad_at}
 use Rattle.rings.proofs.ring.bad_entry.Goals as goal
 
-pub returns-then-count-u : goal.returns-then-count-u
-returns-then-count-u c = search bad_vertex_lem
-
 pub returns-then-u-v : goal.returns-then-u-v
-returns-then-u-v c = search bad_self
+unfolding bad_at repeat_at
+returns-then-u-v c = grind (arith, nat_tests)
 
-pub returns : goal.returns
-returns c = search (bad_repeat, c.if-u-v.false)
+pub returns-else-u-v : goal.returns-else-u-v
+unfolding bad_at repeat_at
+returns-else-u-v c = grind (arith, nat_tests)

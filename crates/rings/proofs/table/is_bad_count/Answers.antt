@@ -1,9 +1,13 @@
 -- `is_bad_count` meets its contract. Assumes nothing.
-use Rattle.rings.proofs.Checks.{count_low, count_rest}
+use borrow.Author.Tests.{tests}
+use borrow.Author.Rules.{rules}
+use Rattle.rings.specs.Check.{bad_count}
 use Rattle.rings.proofs.table.is_bad_count.Goals as goal
 
 pub returns-then-count-lt-LEAST_COUNT : goal.returns-then-count-lt-LEAST_COUNT
-returns-then-count-lt-LEAST_COUNT c = search count_low
+unfolding bad_count
+returns-then-count-lt-LEAST_COUNT c = search (rules, tests)
 
-pub returns : goal.returns
-returns c = search count_rest
+pub returns-else-count-lt-LEAST_COUNT : goal.returns-else-count-lt-LEAST_COUNT
+unfolding bad_count
+returns-else-count-lt-LEAST_COUNT c = search (rules, tests)

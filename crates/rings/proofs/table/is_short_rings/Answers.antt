@@ -1,9 +1,13 @@
 -- `is_short_rings` meets its contract. Assumes nothing.
-use Rattle.rings.proofs.Checks.{short_valences, short_rest}
+use borrow.Author.Tests.{tests}
+use borrow.Author.Rules.{rules}
+use Rattle.rings.specs.Check.{short_rings}
 use Rattle.rings.proofs.table.is_short_rings.Goals as goal
 
 pub returns-then-valences-count : goal.returns-then-valences-count
-returns-then-valences-count c = search short_valences
+unfolding short_rings
+returns-then-valences-count c = search (rules, tests)
 
-pub returns : goal.returns
-returns c = short_rest _ _ c.if-valences-count.false
+pub returns-else-valences-count : goal.returns-else-valences-count
+unfolding short_rings
+returns-else-valences-count c = search (rules, tests)

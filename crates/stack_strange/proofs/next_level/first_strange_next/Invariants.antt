@@ -1,4 +1,4 @@
-use Prim.Native.Nat.{◌+◌, ◌-◌, ◌≤◌}
+use Prim.Native.Nat.{◌+◌}
 use mathlib.Core.Path.{◌≡◌}
 use Rattle.mesh.proofs.First.{Clear}
 use Rattle.rings.specs.Table.{lent}
@@ -7,7 +7,7 @@ use Rattle.stack_strange.specs.Expected.{strange_next}
 use Rattle.stack_strange.proofs.next_level.first_strange_next.Given as goal
 
 abbrev pub invariant-loop-p : goal.invariant-loop-p
-invariant-loop-p l = (l.p ≤ l.count) × ((l.start ≡ start_of l.count (lent l.valences l.rings) l.p) × Clear (strange_next l.count (lent l.valences l.rings) l.positions) (l.count + l.start))
-
-abbrev pub decreases-loop-p : goal.decreases-loop-p
-decreases-loop-p l = l.count - l.p
+invariant-loop-p l = record {
+  start : l.start ≡ start_of l.count (lent l.valences l.rings) l.p;
+  clear : Clear (strange_next l.count (lent l.valences l.rings) l.positions) (l.count + l.start);
+}

@@ -1,0 +1,2 @@
+-- The counts of a ring's entries.
+pub mod Counts

@@ -1,2 +1,0 @@
--- Laws of blocks.
-pub mod Rows
