@@ -1,16 +1,16 @@
 -- A number that is known to stand at a place, read byte by byte up to the byte behind it; and units, read as a number.
 -- Assumes nothing.
 use mathlib.Core.Path.{◌≡◌, refl, sym, ap, ◌∙◌}
-use mathlib.Core.Bool.{Bool, true, not, ◌&&◌}
+use mathlib.Core.Bool.{not, Bool, true, ◌&&◌}
 use mathlib.Core.List.{List}
 use mathlib.Core.Logic.{⊎_elim, ◌≢◌}
 use Prim.Native.Nat.{ℕ, ◌+◌, ◌-◌, ◌*◌, ◌≤◌, ◌<◌}
 use native.Mathlib.Nat.{add_assoc, zero-add, add-zero, le_antisymm}
 use native.Mathlib.Omega.{arith}
-use lib.Dec.{leb, eqb}
+use lib.Dec.{eqb, leb}
 use lib.IntN.{ℤ, pos, negsuc}
 use lib.ListN.{length, get_or}
-use borrow.Author.Tests.{not-true, not-false, eqb-false, eq-eqb, ne_eqb, ltb-true}
+use borrow.Author.Tests.{eqb-false, not-true, not-false, eq-eqb, ne_eqb, ltb-true}
 use Rattle.mesh.proofs.Lists.{lt_split, eq_split}
 use Rattle.mesh.proofs.First.{first_le, first_clear}
 use Rattle.file_format.specs.Bytes.{coordinate_of}
@@ -19,13 +19,12 @@ use Rattle.off_numbers.specs.Text.{byte_at, digit_at, no_digit, run_at, value_of
 use Rattle.off_numbers.specs.Scanned.{NumberThere, UnitThere}
 use Rattle.off_numbers.proofs.Scanning.{Scan, scan_none, scan_bound, scan_more, digit_range, number_ends, byte_within, and_true}
 
--- some digits of the number at a place are read, and this is the byte behind them
-pub record Reading (s : List ℕ) (at value next byte : ℕ) : Type 0 where
+-- some digits of the number at a place are read, and it goes on at a place
+pub record Reading (s : List ℕ) (at value next : ℕ) : Type 0 where
   pub count : ℕ
   pub place : next ≡ at + count
   pub short : count ≤ run_at s at
   pub scan : Scan s at count value
-  pub is : byte ≡ byte_at s (at + count)
 
 run_most : (s : List ℕ) (at : ℕ) → run_at s at ≤ 11
 unfolding run_at
@@ -34,13 +33,19 @@ run_most s at = first_le (no_digit s at) 11
 ends_within : {s : List ℕ} {at : ℕ} → NumberThere s at → at + run_at s at < length s
 ends_within {s} {at} n = byte_within s (at + run_at s at) n.last (number_ends s at n.bound n.last n.good).1 n.positive
 
-reading_none : (s : List ℕ) (at : ℕ) → Reading s at 0 at (get_or s at 0)
-unfolding byte_at
-reading_none s at = record { count = 0; place = omega arith; short = omega arith; scan = scan_none s at; is = rw (add-zero at) }
+pub reading_none : (s : List ℕ) (at : ℕ) → Reading s at 0 at
+reading_none s at = record { count = 0; place = omega arith; short = omega arith; scan = scan_none s at }
 
-module _ {s : List ℕ} {at value next byte : ℕ} (k : Reading s at value next byte) where
+module _ {s : List ℕ} {at value next : ℕ} (k : Reading s at value next) where
   pub reading_bound : value ≤ 99999999999
   reading_bound = scan_bound k.scan (omega (arith, k.short, run_most s at))
+
+  abbrev byte : ℕ
+  byte = get_or s next 0
+
+  byte_is : byte ≡ byte_at s (at + k.count)
+  unfolding byte_at
+  byte_is = ap (λ i. get_or s i 0) k.place
 
   abbrev test : Bool
   test = leb 48 byte && leb byte 57
@@ -48,11 +53,11 @@ module _ {s : List ℕ} {at value next byte : ℕ} (k : Reading s at value next 
   -- within the row there are digits
   test_true : k.count < run_at s at → test ≡ true
   unfolding run_at digit_at
-  test_true h = rw k.is (not-false (digit_at s (at + k.count)) ((first_clear (no_digit s at) 11).below k.count h))
+  test_true h = rw byte_is (not-false (digit_at s (at + k.count)) ((first_clear (no_digit s at) 11).below k.count h))
 
   -- their bytes
   in_row : k.count < run_at s at → (48 ≤ byte) × (byte ≤ 57)
-  in_row h = digit_range s at k.count value byte test k.is refl (test_true h)
+  in_row h = digit_range s at k.count value byte test byte_is refl (test_true h)
 
   module _ (n : NumberThere s at) where
     -- a byte that is not below the digits stands in the row
@@ -61,7 +66,7 @@ module _ {s : List ℕ} {at value next byte : ℕ} (k : Reading s at value next 
         ⊎_elim (λ q. q.1)
         (λ q.
         let e : k.count ≡ run_at s at = le_antisymm k.short q.1 in
-        let b : byte ≡ n.last = k.is ∙ ap (λ i. byte_at s (at + i)) e ∙ (number_ends s at n.bound n.last n.good).1 in
+        let b : byte ≡ n.last = byte_is ∙ ap (λ i. byte_at s (at + i)) e ∙ (number_ends s at n.bound n.last n.good).1 in
         absurd (omega (arith, n.low)))
         (lt_split k.count (run_at s at))
 
@@ -69,14 +74,12 @@ module _ {s : List ℕ} {at value next byte : ℕ} (k : Reading s at value next 
     pub reading_next : 48 ≤ byte → (byte ≤ 57) × (next + 1 < length s)
     reading_next h = ((in_row (here h)).1, omega (arith, k.place, here h, ends_within n))
 
-    pub reading_more : 48 ≤ byte → Reading s at (value * 10 + (byte - 48)) (next + 1) (get_or s (next + 1) 0)
-    unfolding byte_at
+    pub reading_more : 48 ≤ byte → Reading s at (value * 10 + (byte - 48)) (next + 1)
     reading_more h = record {
       count = k.count + 1;
       place = omega (arith, k.place);
       short = omega (arith, here h);
-      scan = scan_more s at k.count value byte test k.is refl k.scan (test_true (here h));
-      is = ap (λ i. get_or s i 0) (omega (arith, k.place));
+      scan = scan_more s at k.count value byte test byte_is refl k.scan (test_true (here h));
     }
 
     -- a byte below the digits ends them
@@ -88,8 +91,8 @@ module _ {s : List ℕ} {at value next byte : ℕ} (k : Reading s at value next 
         in
         (k.scan.worth ∙ ap (value_of s at) e, omega (arith, k.place))
 
-    pub reading_last : next + 1 ≤ length s
-    reading_last = omega (arith, k.place, k.short, ends_within n)
+    pub reading_within : next + 1 ≤ length s
+    reading_within = omega (arith, k.place, k.short, ends_within n)
 
 -- ---- its first digits
 
@@ -101,15 +104,15 @@ module _ {s : List ℕ} {at : ℕ} (n : NumberThere s at) where
       let some = eqb-false (run_at s at) 0 (not-true (eqb (run_at s at) 0) (and_true (not (eqb (run_at s at) 0)) _ n.good).0) in
       ⊎_elim (λ q. absurd (omega (arith, some, (reading_end (reading_none s at) n q.1).1))) (λ q. q.1) (lt_split (get_or s at 0) 48)
 
-  pub reading_one : Reading s at (get_or s at 0 - 48) (at + 1) (get_or s (at + 1) 0)
+  pub reading_one : Reading s at (get_or s at 0 - 48) (at + 1)
   reading_one = rw (zero-add (get_or s at 0 - 48)) at (reading_more (reading_none s at) n reading_first)
 
   module _ (second : 48 ≤ get_or s (at + 1) 0) where
-    pub reading_two : Reading s at ((get_or s at 0 - 48) * 10 + (get_or s (at + 1) 0 - 48)) (at + 2) (get_or s (at + 2) 0)
+    pub reading_two : Reading s at ((get_or s at 0 - 48) * 10 + (get_or s (at + 1) 0 - 48)) (at + 2)
     reading_two = rw (add_assoc at 1 1) at (reading_more reading_one n second)
 
     pub reading_three : 48 ≤ get_or s (at + 2) 0
-        → Reading s at (((get_or s at 0 - 48) * 10 + (get_or s (at + 1) 0 - 48)) * 10 + (get_or s (at + 2) 0 - 48)) (at + 3) (get_or s (at + 3) 0)
+        → Reading s at (((get_or s at 0 - 48) * 10 + (get_or s (at + 1) 0 - 48)) * 10 + (get_or s (at + 2) 0 - 48)) (at + 3)
     reading_three third = rw (add_assoc at 2 1) at (reading_more reading_two n third)
 
 -- ---- units

@@ -21,6 +21,7 @@ pub fn read_number(text: &[u8], at: usize) -> Read<usize>
     ensures value_value { result.value ≡ value_at text.now at }
     ensures next_value { result.next ≡ after_at text.now at }
 {
+    // One by one, as most numbers of a face have no more than three digits.
     let first = text[at] as usize - ZERO;
     let second = text[at + 1] as usize;
     if second < ZERO {
@@ -39,12 +40,10 @@ pub fn read_number(text: &[u8], at: usize) -> Read<usize>
     }
     let mut value = two * 10 + (third - ZERO);
     let mut next = at + 3;
-    let mut byte = text[next] as usize;
     // A `while`, as the digits end at a byte that is known to come, and not at the text's end.
-    while ZERO <= byte {
-        value = value * 10 + (byte - ZERO);
+    while ZERO <= text[next] as usize {
+        value = value * 10 + (text[next] as usize - ZERO);
         next += 1;
-        byte = text[next] as usize;
     }
     Read {
         value,

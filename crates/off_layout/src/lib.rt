@@ -125,7 +125,8 @@ fn past_lines<F: Fn(usize) -> Option<usize>>(from: usize, lines: usize, past: F)
     Reached { line: lines, at }
 }
 
-// Is the text as it should be, or which line is the first that is not?
+// Is the text as it should be, or which line is the first that is not? A function of its own in the machine code, which is faster.
+#[inline(never)]
 pub fn judge_text(text: &[u8]) -> Result<Text, Refusal>
     ensures { result ≡ judged_text text.now }
 {

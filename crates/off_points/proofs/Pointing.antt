@@ -2,19 +2,17 @@
 -- Assumes nothing.
 use mathlib.Core.Path.{◌≡◌, refl, sym, ap, ◌∙◌}
 use mathlib.Core.Bool.{Bool, true, false}
-use mathlib.Core.List.{List, [], ◌∷◌}
-use Prim.Native.Nat.{ℕ, ◌+◌, ◌-◌, ◌*◌, ◌≤◌, ◌<◌}
+use mathlib.Core.List.{List}
+use Prim.Native.Nat.{ℕ, ◌+◌, ◌*◌, ◌≤◌, ◌<◌}
 use native.Mathlib.Numerals.{add-one}
 use native.Mathlib.Omega.{arith}
 use lib.IntN.{ℤ}
-use lib.ListN.{length}
-use lib.Seq.{drop-drop}
-use borrow.Rule.Slice.PartMut.{put_mid}
+use lib.ListN.{length, set, length-set}
 use Rattle.mesh.proofs.First.{Clear, clear_none, clear_more}
-use Rattle.rings.specs.Table.{put, point_rows}
+use Rattle.rings.specs.Table.{point_rows}
 use Rattle.rings.proofs.Tables.{length_gather}
 use Rattle.file_format.specs.Blocks.{Put}
-use Rattle.file_format.proofs.Blocks.{put_none, put_length, rows_next, rows_all}
+use Rattle.file_format.proofs.Blocks.{put_none, put_one, put_length, then, rows_next, rows_all}
 use Rattle.off_numbers.specs.Text.{is_unit, unit_at, after_unit}
 use Rattle.off_numbers.specs.Scanned.{UnitThere}
 use Rattle.off_numbers.proofs.Scanning.{and_true}
@@ -85,10 +83,11 @@ searched_more k e h n = record { here = n; clear = clear_more k.clear (sym e ∙
 
 -- ---- the points written
 
-pub row_written : {s : List ℕ} {v next : ℕ} {x y z : ℤ} {l row : List ℤ} → PointRead s v x y z next → row ≡ x ∷ y ∷ z ∷ [] → v * 3 + 3 ≤ length l
-    → Put l (v * 3) (point_row s v) (put_mid (v * 3) (v * 3 + 3 - v * 3) l row)
-unfolding put
-row_written {v = v} k e h = record { fits = h; is = let w : v * 3 + 3 - v * 3 ≡ 3 = omega arith in rw (w, drop-drop, e, k.x_is, k.y_is, k.z_is) }
+pub row_written : {s : List ℕ} {v next : ℕ} {x y z x' y' z' : ℤ} {l : List ℤ} → PointRead s v x y z next → x' ≡ x → y' ≡ y → z' ≡ z → v * 3 + 3 ≤ length l
+    → Put l (v * 3) (point_row s v) (set (set (set l (v * 3) x') (v * 3 + 1) y') (v * 3 + 2) z')
+row_written k e f g h =
+    rw (← k.x_is, ← k.y_is, ← k.z_is, ← e, ← f, ← g)
+    (then (then (put_one (omega arith)) (put_one (simp length-set (omega arith))) refl) (put_one (simp length-set (omega arith))) refl)
 
 -- the points below v are written, and the line of v begins here
 pub record FilledTo (s : List ℕ) (old new : List ℤ) (at v : ℕ) : Type 0 where

@@ -81,7 +81,9 @@ fn fill_point(text: &[u8], at: usize, positions: &mut [i32], v: usize) -> usize
     ensures value { result ≡ vertex_at text.now (v + 1) }
 {
     let line = point_at(text, at, v);
-    positions[v * 3..v * 3 + 3].copy_from_slice(&[line.x, line.y, line.z]);
+    positions[v * 3] = line.x;
+    positions[v * 3 + 1] = line.y;
+    positions[v * 3 + 2] = line.z;
     line.next
 }
 

@@ -1,8 +1,6 @@
 -- `read_unit` meets its contract. Assumes nothing.
-use mathlib.Core.Path.{◌∙◌}
 use native.Mathlib.Omega.{arith}
-use mir.Syntax.{w32}
-use mir.ValLaws.{to_z-of_z}
+use Rattle.std.proofs.lemmas.Int.{ints}
 use Rattle.off_known.proofs.Knowing.{unit_within, unit_below, unit_above, unit_below_is, unit_above_is}
 use Rattle.off_known.proofs.read_unit.Goals as goal
 
@@ -31,7 +29,7 @@ coordinate_of-requires c =
 pub returns-then-text-at-eq-MINUS : goal.returns-then-text-at-eq-MINUS
 returns-then-text-at-eq-MINUS c =
     let t = unit_below_is c.requires c.if-text-at-eq-MINUS.true c.read_number-below.ensures.value_value c.read_number-below.ensures.next_value
-    (to_z-of_z w32 c.coordinate_of.result (record { sfits = c.coordinate_of.type_inv }) ∙ c.coordinate_of.ensures) in
+    (grind (arith, ints)) in
     record { value_value = t.0; next_value = t.1 }
 
 pub read_number-above-requires : goal.read_number-above-requires
@@ -45,5 +43,5 @@ coordinate_of-requires-else-text-at-eq-MINUS c =
 pub returns-else-text-at-eq-MINUS : goal.returns-else-text-at-eq-MINUS
 returns-else-text-at-eq-MINUS c =
     let t = unit_above_is c.requires c.if-text-at-eq-MINUS.false c.read_number-above.ensures.value_value c.read_number-above.ensures.next_value
-    (to_z-of_z w32 c.coordinate_of-else-text-at-eq-MINUS.result (record { sfits = c.coordinate_of-else-text-at-eq-MINUS.type_inv }) ∙ c.coordinate_of-else-text-at-eq-MINUS.ensures) in
+    (grind (arith, ints)) in
     record { value_value = t.0; next_value = t.1 }
