@@ -1,6 +1,6 @@
 -- What a list of records answers, by the kind of the record at the answer's place. Assumes nothing.
 use Prim.Native.Nat.{ℕ, ◌≤◌}
-use mathlib.Core.Path.{◌≡◌, refl, ap, ◌∙◌}
+use mathlib.Core.Path.{◌≡◌, refl, sym, ap, ◌∙◌}
 use mathlib.Core.Bool.{Bool, true, false, ◌&&◌}
 use mathlib.Core.Logic.{◌≢◌}
 use mathlib.Core.List.{List}
@@ -28,7 +28,7 @@ module _ (kind : ℕ) (p : Paper) where
   known_kind h = rw (le-ltb 2 kind h)
 
 -- what would stand past the end of a list
-abbrev no_record : MoveRecord
+abbrev pub no_record : MoveRecord
 no_record = record { vertex = 0; kind = 0; x = nan; y = nan; z = nan }
 
 module _ (list : List MoveRecord) (p : Paper) where
@@ -45,6 +45,10 @@ module _ (list : List MoveRecord) (p : Paper) where
   -- past the end
   pub by_none : length list ≤ p.place → by_kinds list p ≡ p
   by_none h = by_record ∙ ap (λ (r : MoveRecord). by_kind r.kind p) (get_or-eq_default list no_record h) ∙ known_kind 0 p (omega arith)
+
+  -- the same, from the answer's side
+  pub no_record_lem : length list ≤ p.place → p ≡ by_kinds list p
+  no_record_lem h = sym (by_none h)
 
 -- what stands at the answer's place
 pub ruleset at_place = (by_record, by_number, by_none)

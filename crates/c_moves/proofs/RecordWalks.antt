@@ -4,10 +4,11 @@ use mathlib.Core.Path.{◌≡◌, sym, ap, ◌∙◌}
 use mathlib.Core.List.{List}
 use native.Mathlib.Omega.{arith}
 use lib.IntN.{ℤ}
-use lib.ListN.{length, get_or, drop, get_or-map, length-map}
-use Rattle.move_plan.specs.Plan.{step_of, walk_of}
+use lib.ListN.{length, get_or, drop, get_or-map, length-map, drop_of_length-le}
+use Rattle.move_plan.specs.Plan.{step_of, ahead_of, walk_of}
 use Rattle.move_plan.specs.declared.Plan.{Plan}
 use Rattle.move_plan.proofs.Walks.{one_more, walk_over, walk_end}
+use Rattle.move_plan.proofs.WalksStop.{Counted, walk_stops}
 use Rattle.c_moves.specs.Records.{move_of, moves_of}
 use Rattle.c_moves.specs.declared.MoveRecord.{MoveRecord}
 
@@ -20,5 +21,9 @@ module _ (ps : List ℤ) (list : List MoveRecord) (i : ℕ) (s : Plan) where
   pub records_end : length list ≤ i → walk_of ps (drop i (moves_of list)) s ≡ s
   records_end h = walk_end ps (moves_of list) i s (omega (arith, length-map list move_of))
 
+  -- where the walk stops
+  pub records_ahead : Counted i s → ahead_of s (length list) ≤ i → walk_of ps (drop i (moves_of list)) s ≡ s
+  records_ahead c = walk_stops ps (drop i (moves_of list)) s i (length list) (λ l. drop_of_length-le (moves_of list) (omega (arith, length-map list move_of))) c
+
 -- how a walk of records goes on, stops and ends
-pub ruleset walking_records = (one_record_more, walk_over, records_end)
+pub ruleset walking_records = (one_record_more, walk_over, records_ahead, records_end)

@@ -1,6 +1,8 @@
 // The kinds of a move, by the numbers that stand for them in a record.
 ghost use Rattle.c_moves.specs.Kinds.{Decodes};
 
+use super::{PLACE, SHIFT, STRETCH};
+
 // What a move's numbers are to its point.
 #[derive(Clone, Copy, PartialEq, Eq, Debug)]
 pub enum Kind {
@@ -20,9 +22,9 @@ impl TryFrom<u32> for Kind {
 
     fn try_from(number: u32) -> Result<Kind, UnknownKind> {
         match number {
-            0 => Ok(Kind::Place),
-            1 => Ok(Kind::Shift),
-            2 => Ok(Kind::Stretch),
+            PLACE => Ok(Kind::Place),
+            SHIFT => Ok(Kind::Shift),
+            STRETCH => Ok(Kind::Stretch),
             _ => Err(UnknownKind),
         }
     }

@@ -11,8 +11,15 @@ ghost use Rattle.c_moves.specs.Records.{move_of, moves_of, by_kind, by_kinds};
 use c_answers::ValueAnswer;
 use kinds::Kind;
 use millimetres::Change;
-use move_plan::list::{is_over, step};
+use move_plan::list::{ahead, is_over, step};
 use move_plan::{Move, Plan};
+
+// The numbers that stand for the kinds of a move in a record.
+pub const PLACE: u32 = 0;
+
+pub const SHIFT: u32 = 1;
+
+pub const STRETCH: u32 = 2;
 
 // The numbers that answer a move of a vertex that is not there, and one of an unknown kind.
 pub const NO_SUCH_VERTEX: u32 = 3;
@@ -56,8 +63,9 @@ pub fn walk_records(list: &[MoveRecord], positions: &[i32], start: Plan) -> Plan
     ensures { result ≡ walk_of positions.now (moves_of list.now) start }
 {
     let mut plan = start;
-    for item in list {
-        if is_over(&plan) {
+    for (i, item) in list.iter().enumerate() {
+        // What `is_over` knows spares `step` a copy of the plan.
+        if is_over(&plan) || ahead(&plan, list.len()) <= i {
             break;
         }
         plan = step(positions, plan, Move::from(*item));

@@ -28,15 +28,19 @@ fn read_four(bytes: &[u8], from: usize, rings: &mut [Vertex], to: usize, i: usiz
     rings[place + 3] = d as Vertex;
 }
 
-// Whole fours of n neighbours, behind the first four.
+// Whole fours of n neighbours, behind the first four. The range is as long as any ring needs, and is left early: it becomes straight code.
 fn read_fours(bytes: &[u8], from: usize, rings: &mut [Vertex], to: usize, n: usize)
     requires le_n { 4 ≤ n }
+    requires n_le_most { n ≤ most_valence }
     requires n_in_bounds { from + n * 2 ≤ length bytes.now }
     requires n_in_bounds_2 { to + n ≤ length rings.old }
     ensures { Put rings.old (to + 4) (gather_from (neighbour_at bytes.now from) 4 ((n - 4) / 4 * 4)) rings.new }
 {
-    for i in (4..n - 3).step_by(4) {
-        read_four(bytes, from, rings, to, i);
+    for k in 1..MOST_VALENCE / 4 {
+        if n < 4 * k + 4 {
+            break;
+        }
+        read_four(bytes, from, rings, to, 4 * k);
     }
 }
 
@@ -53,6 +57,7 @@ fn read_each(bytes: &[u8], from: usize, rings: &mut [Vertex], to: usize, n: usiz
 
 // The n neighbours that stand from a place on. The last four are read again where n is no multiple of four.
 fn read_neighbours(bytes: &[u8], from: usize, rings: &mut [Vertex], to: usize, n: usize)
+    requires n_le_most { n ≤ most_valence }
     requires n_in_bounds { from + n * 2 ≤ length bytes.now }
     requires n_in_bounds_2 { to + n ≤ length rings.old }
     ensures { Put rings.old to (gather (neighbour_at bytes.now from) n) rings.new }

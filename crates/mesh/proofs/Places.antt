@@ -9,7 +9,7 @@ use native.Mathlib.Nat.{not-suc-le-zero, le_antisymm}
 use native.Mathlib.Omega.{arith}
 use lib.Dec.{eqb, ltb}
 use lib.ListN.{length, get_or}
-use borrow.Author.Tests.{eq-eqb, ne_eqb, eqb-true, eqb-false, lt-ltb, ltb-true, ltb-false, leb-false}
+use borrow.Author.Tests.{eq-eqb, ne_eqb, eqb-true, eqb-false, lt-ltb, ltb-true, ltb-false, le-leb, lt-leb, leb-false}
 use Rattle.mesh.specs.Ring.{times, ◌∈◌, has, place, place_of, place_after, place_before, next, prev, Follows, follows}
 use Rattle.mesh.specs.Tests.{repeat_at, bad_at}
 use Rattle.mesh.proofs.Lists.{eq_split, lt_split, there}
@@ -146,6 +146,19 @@ true_follows l x y f = rw (in_has x l f.0) (eq-eqb (next l x) y f.1)
 -- ---- a bad place
 
 module _ (n v : ℕ) (l : List ℕ) (i : ℕ) where
+  pub bad_vertex_lem : n ≤ get_or l i 0 → true ≡ bad_at n v l i
+  unfolding bad_at
+  bad_vertex_lem h = rw (le-leb n (get_or l i 0) h)
+
+  pub bad_self : get_or l i 0 < n → get_or l i 0 ≡ v → true ≡ bad_at n v l i
+  unfolding bad_at
+  bad_self h e = rw (lt-leb n (get_or l i 0) h, eq-eqb (get_or l i 0) v e)
+
+  pub bad_repeat : get_or l i 0 < n → (get_or l i 0 ≡ v → ⊥) → (k : ℕ) → k ≡ place (get_or l i 0) l → ltb k i ≡ bad_at n v l i
+  unfolding bad_at repeat_at
+  bad_repeat h d k e = rw (lt-leb n (get_or l i 0) h, ne_eqb (get_or l i 0) v d, e)
+
+  -- and where it is none
   pub bad_false : bad_at n v l i ≡ false → (get_or l i 0 < n) × (get_or l i 0 ≡ v → ⊥) × (i ≤ place (get_or l i 0) l)
   unfolding bad_at repeat_at
   bad_false e =

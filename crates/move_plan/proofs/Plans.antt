@@ -12,16 +12,20 @@ use lib.IntN.{ℤ}
 use lib.ListN.{length, take, get_or}
 use lib.Seq.{take-suc}
 use Rattle.units.specs.Coordinate.{beyond}
+use Rattle.millimetres.specs.Millimetres.{mm_of}
+use Rattle.millimetres.specs.Move.{moved_to}
+use Rattle.millimetres.specs.declared.Mm.{Mm}
+use Rattle.millimetres.specs.declared.Unmoved.{Unmoved}
 use Rattle.units.specs.declared.Point.{Point}
 use Rattle.rings.specs.Verdict.{after}
 use Rattle.rings.specs.declared.Refusal.{Refusal}
 use Rattle.rings.specs.declared.Refusal.TheVariants as refusal
 use Rattle.rings.proofs.Checks.{within}
-use Rattle.move_plan.specs.Plan.{Near, origin, kept_point, latest_point, refused_in, taken_in, step_of}
+use Rattle.move_plan.specs.Plan.{Near, origin, planned, read_point, kept_point, latest_point, current_point, noted_in, refused_in, result_in, taken_in, step_of}
 use Rattle.move_plan.specs.declared.Move.{Move}
 use Rattle.move_plan.specs.declared.Entry.{Entry}
 use Rattle.move_plan.specs.declared.Plan.{Plan}
-use Rattle.std.specs.Prelude.{Ok, Err}
+use Rattle.std.specs.Prelude.{Result, Ok, Err}
 
 pub latest_append : (es : List Entry) (e : Entry) (v : ℕ) (p : Point) → latest_point (es ++ (e ∷ [])) v p ≡ cond (eqb e.vertex v) e.point (latest_point es v p)
 unfolding latest_point
@@ -69,6 +73,17 @@ kept_by p false false false ea eb ec = rw (← kept_self p ea eb ec) (record { x
 
 pub kept_near : (p q : Point) → q ≡ kept_point p → Near q
 kept_near p q e = rw e (kept_by p (beyond p.x) (beyond p.y) (beyond p.z) refl refl refl)
+
+-- a move of a vertex of the mesh that gives a point
+module _ (ps : List ℤ) (s : Plan) (m : Move) (a b p : Point) (mm : Mm) (r : Result Point Unmoved) (ea : a ≡ read_point ps m.vertex)
+    (eb : b ≡ latest_point (take s.taken s.entries) m.vertex a) (ep : p ≡ kept_point b) (em : mm ≡ mm_of p) (er : r ≡ moved_to mm m.change) (t : Plan) where
+  gives : r ≡ moved_to (mm_of (current_point ps s m.vertex)) m.change
+  unfolding current_point planned
+  gives = rw (er, em, ep, eb, ea)
+
+  pub taken_at_lem : (q : Point) → r ≡ Ok q → t ≡ noted_in s m.vertex q → t ≡ taken_in ps s m
+  unfolding taken_in
+  taken_at_lem q e h = h ∙ ap (result_in s m.vertex) (sym e ∙ gives)
 
 -- a step, by its cases
 module _ (ps : List ℤ) (s : Plan) (m : Move) where

@@ -55,6 +55,3 @@ one_more ps ms i s r d h e = rw (add-one, drop-cons ms i d h, e)
 pub walk_end : (ps : List ℤ) (ms : List Move) (i : ℕ) (s : Plan) → length ms ≤ i → walk_of ps (drop i ms) s ≡ s
 unfolding walk_of
 walk_end ps ms i s h = rw (drop_of_length-le ms h)
-
--- how a walk goes on, stops and ends
-pub ruleset walking = (one_more, walk_over, walk_end)

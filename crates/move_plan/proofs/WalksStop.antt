@@ -10,6 +10,7 @@ use native.Mathlib.Omega.{arith}
 use borrow.Author.Tests.{lt-ltb, le-ltb, ltb-true, ltb-false}
 use lib.Dec.{ltb}
 use lib.IntN.{ℤ}
+use lib.ListN.{length, drop, drop_of_length-le}
 use Rattle.mesh.proofs.Lists.{le_split}
 use Rattle.millimetres.specs.Millimetres.{mm_of}
 use Rattle.millimetres.specs.Move.{moved_to}
@@ -25,7 +26,7 @@ use Rattle.move_plan.specs.declared.Plan.{Plan}
 use Rattle.move_plan.proofs.Plans.{step_refused, step_full, step_unknown, step_taken}
 use Rattle.rings.specs.Refusal.{Verdict}
 use Rattle.std.specs.Prelude.{Result, Ok, Err}
-use Rattle.move_plan.proofs.Walks.{not_both, walk_refused, walk_full}
+use Rattle.move_plan.proofs.Walks.{not_both, walk_refused, walk_full, walk_over, one_more, walk_end}
 
 -- ---- how far a list is looked at
 
@@ -115,3 +116,10 @@ module _ (ps : List ℤ) where
     pub walk_stops : ahead_of s moves ≤ i → walk_of ps rest s ≡ s
     unfolding ahead_of
     walk_stops = stops_by s.verdict (ltb 64 moves) refl
+
+-- the same of the moves of a list from place i on
+pub walk_ahead : (ps : List ℤ) (ms : List Move) (i : ℕ) (s : Plan) → Counted i s → ahead_of s (length ms) ≤ i → walk_of ps (drop i ms) s ≡ s
+walk_ahead ps ms i s c = walk_stops ps (drop i ms) s i (length ms) (λ l. drop_of_length-le ms l) c
+
+-- how a walk goes on, stops and ends
+pub ruleset walking = (one_more, walk_over, walk_ahead, walk_end)

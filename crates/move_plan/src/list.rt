@@ -2,7 +2,7 @@
 ghost use Rattle.std.specs.Prelude.{◌≡◌, ◌≤◌, ◌<◌, take};
 ghost use Rattle.mesh.specs.Limits.{most_moves};
 ghost use Rattle.units.specs.Coordinate.{InRange};
-ghost use Rattle.move_plan.specs.Plan.{opened_plan, over, read_point, kept_point, latest_point, current_point, noted_in, refused_in, taken_in, step_of, walk_of};
+ghost use Rattle.move_plan.specs.Plan.{opened_plan, ahead_of, over, read_point, kept_point, latest_point, current_point, noted_in, refused_in, taken_in, step_of, walk_of};
 
 use super::{Entry, Move, Plan};
 use check_mesh::positions::is_beyond;
@@ -139,14 +139,27 @@ pub fn step(positions: &[i32], plan: Plan, m: Move) -> Plan
     }
 }
 
+// How far a list of so many moves is looked at, by the plan reached: no further once it is refused,
+// and to the 64th move at most.
+#[tactic(auto, unfolding(crate::specs::Plan::ahead_of, rings::specs::Verdict::after))]
+pub fn ahead(plan: &Plan, moves: usize) -> usize
+    ensures { result ≡ ahead_of plan.now moves }
+{
+    match plan.verdict {
+        Err(_) => 0,
+        Ok(()) => moves.min(MOST_MOVES),
+    }
+}
+
 // The moves in order, as far as they are looked at.
-#[tactic(auto, using(crate::proofs::Walks::walking))]
+#[tactic(auto, using(crate::proofs::WalksStop::walking))]
 pub fn walk(list: &[Move], positions: &[i32], start: Plan) -> Plan
     ensures { result ≡ walk_of positions.now list.now start }
 {
     let mut plan = start;
-    for m in list {
-        if is_over(&plan) {
+    for (i, m) in list.iter().enumerate() {
+        // What `is_over` knows spares `step` a copy of the plan.
+        if is_over(&plan) || ahead(&plan, list.len()) <= i {
             break;
         }
         plan = step(positions, plan, *m);

@@ -422,6 +422,9 @@ module _ {n e levels : ℕ} {t : Lent} {ps₀ : List ℤ} (R : StackReady n e le
 
   -- ---- all levels done
 
+  pub raised_length : (map₀ : List ℕ) {k : ℕ} {below : Level} {map : List ℕ} {ps : List ℤ} → Raised n t ps₀ map₀ k below map ps → k ≤ levels → length ps ≡ length ps₀
+  raised_length map₀ g l = raised_long map₀ g l
+
   pub raised_end : (map₀ : List ℕ) {k : ℕ} {below : Level} {map : List ℕ} {ps : List ℤ} → Raised n t ps₀ map₀ k below map ps → k ≡ levels
       → TouchedMarked n levels t (marked map₀) (marked map) × (ps ≡ refreshed_positions n t (marked map₀) ps₀ levels)
   raised_end map₀ {map = map} {ps = ps} g q =

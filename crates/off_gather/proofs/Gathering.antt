@@ -19,7 +19,7 @@ use Rattle.off_rings.proofs.Pairs.{Fine, fine_of, at_a, at_b, at_c}
 use Rattle.off_text.specs.Layout.{text_count, is_corners, is_face, corners_at, after_face, face_line_at, text_face}
 use Rattle.off_fans.specs.Rows.{Fans, Room, Low, added_at, NotedIn}
 use Rattle.off_fans.proofs.Noting.{fans_same}
-use Rattle.off_gather.specs.Gathering.{SameRoom, Cornered, Gathered}
+use Rattle.off_gather.specs.Gathering.{FaceLines, FaceLine, SameRoom, Cornered, Gathered}
 
 -- where the three numbers of a face stand
 pub record Standing (s : List ℕ) (at : ℕ) : Type 0 where
@@ -213,6 +213,14 @@ gathered_more s first rows width i at a b c next e good k g n₁ n₂ n₃ =
     )
 
 -- ---- what the functions know
+
+pub face_line_lem : {s : List ℕ} {m from i at : ℕ} → FaceLines s m from → i < m → at ≡ face_line_at s i → FaceLine s i at
+face_line_lem {s} {m} {from} {i} {at} k h e = record {
+  few = k.few;
+  number = omega (arith, k.number);
+  begins = e;
+  good = subst (λ p. is_face s p ≡ true) (sym e) (k.good i h);
+}
 
 pub room_same : {rows width : ℕ} {c f t c' f' t' : List ℕ} → SameRoom c f t c' f' t' → Room rows width c f t → Room rows width c' f' t'
 room_same k r = record {

@@ -17,7 +17,7 @@ use Rattle.off_text.specs.Layout.{text_count, text_faces, text_face}
 use Rattle.off_gather.specs.Gathering.{FaceLines, Gathered, SameRoom}
 use Rattle.off_gather.proofs.Rows.{row_count, gathered_all}
 use Rattle.off_blocks.specs.Blocks.{places, Width, Block, Tables, ahead}
-use Rattle.off_judge.specs.Judging.{unfit_at, unfit_from, open_at, unfit, stops, Sofar, Stepped, Judged}
+use Rattle.off_judge.specs.Judging.{unfit_at, unfit_from, open_at, unfit, stops, Sofar, Stepped, Stopped, Judged}
 use Rattle.off_judge.proofs.Stops.{open_narrow, open_wide}
 use Rattle.off_judge.proofs.Faulty.{unfit_known, unfit_found, unfit_none}
 
@@ -109,7 +109,7 @@ module _ {s : List ℕ} {at width known rows j : ℕ} {counts froms tos : List �
         (lt_split known (text_count s)))
 
 -- the vertex reached does not close
-judged_open : {s : List ℕ} {at width fault : ℕ} → Sofar s at width fault → at < text_count s → open_at s at ≡ true → Judged s at fault
+pub judged_open : {s : List ℕ} {at width fault : ℕ} → Sofar s at width fault → at < text_count s → open_at s at ≡ true → Judged s at fault
 judged_open k h o = record {
   open_is = first_is (record { below = k.closed_below }) h o;
   fault_is = λ e. absurd (omega arith);
@@ -132,16 +132,16 @@ module _ {s : List ℕ} {faces from at width known rows j count fault : ℕ} {co
   unfolding ahead
   stepped_wider l wide more = record { sofar = now_known wide; nearer = omega (arith, b.within, wide.high) }
 
-  judged_at : j < rows → open_at s (at + j) ≡ true → Judged s (at + j) fault
-  judged_at l o = judged_open (now_known k.wide) (omega (arith, b.within)) o
+  stopped_at : j < rows → open_at s (at + j) ≡ true → Stopped s (at + j) width fault
+  stopped_at l o = record { sofar = now_known k.wide; below = omega (arith, b.within); opens_at = o }
 
   -- the next vertex does not close, in a row that is wide enough
-  pub judged_narrow : j < rows → get_or counts j 0 ≤ width → Judged s (at + j) fault
-  judged_narrow l n = judged_at l (open_narrow (gathered_all lines all) l e n)
+  pub stepped_narrow : j < rows → get_or counts j 0 ≤ width → Stopped s (at + j) width fault
+  stepped_narrow l n = stopped_at l (open_narrow (gathered_all lines all) l e n)
 
   -- or where rows cannot be wider
-  pub judged_wide : j < rows → places ≤ width → width < get_or counts j 0 → Judged s (at + j) fault
-  judged_wide l w n = judged_at l (open_wide (gathered_all lines all) l lines w n)
+  pub stepped_wide : j < rows → places ≤ width → width < get_or counts j 0 → Stopped s (at + j) width fault
+  stepped_wide l w n = stopped_at l (open_wide (gathered_all lines all) l lines w n)
 
 -- ---- all blocks
 

@@ -45,6 +45,12 @@ module _ (s : List ℕ) where
     pub sofar : Sofar at' width' fault'
     pub nearer : ahead (text_count s) at' width' < ahead (text_count s) at width
 
+  -- a block stopped: the vertex that comes next does not close
+  pub record Stopped (at width fault : ℕ) : Type 0 where
+    pub sofar : Sofar at width fault
+    pub below : at < text_count s
+    pub opens_at : open_at at ≡ true
+
   -- the first vertex that does not close, or V; and where all do, the first that is unfit, or V
   pub record Judged (opens fault : ℕ) : Type 0 where
     pub open_is : opens ≡ first open_at (text_count s)

@@ -8,7 +8,7 @@ ghost use Rattle.off_text.specs.Layout.{text_count, text_faces};
 ghost use Rattle.off_fans.specs.Rows.{Room};
 ghost use Rattle.off_gather.specs.Gathering.{FaceLines, Gathered, SameRoom};
 ghost use Rattle.off_blocks.specs.Blocks.{Tables};
-ghost use Rattle.off_judge.specs.Judging.{unfit_at, unfit_from, stops, Sofar, Stepped, Judged};
+ghost use Rattle.off_judge.specs.Judging.{unfit_at, unfit_from, stops, Sofar, Stepped, Stopped, Judged};
 
 use mesh::limits::{LEAST_VALENCE, MOST_VALENCE, Vertex};
 use off_blocks::{LEAST_WIDTH, PLACES, narrower, rows_of, wider};
@@ -101,7 +101,7 @@ fn judge_block(
     requires at_lt_count { step.at < count }
     ensures stepped { MatchResult result
         (λ next. Stepped text.now step.at step.width next.at next.width next.unfit)
-        (λ faults. Judged text.now faults.opens faults.unfit) }
+        (λ faults. Stopped text.now faults.opens step.width faults.unfit) }
     ensures same_room { SameRoom counts.old froms.old tos.old counts.new froms.new tos.new }
 {
     let Step { at, width, unfit } = step;

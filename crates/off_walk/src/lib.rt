@@ -5,18 +5,15 @@ ghost use Rattle.std.specs.Prelude.{◌≡◌, length};
 ghost use Rattle.off_rings.specs.Fans.{follower, smallest, fan_closes};
 
 use mesh::limits::Vertex;
-use rings::ring::seek;
 
 // What follows x, or the number of vertices where nothing does.
 pub fn follow(from: &[Vertex], to: &[Vertex], count: usize, x: usize) -> usize
     requires { length from.now ≡ length to.now }
     ensures { result ≡ follower count from.now to.now x }
 {
-    let i = seek(from, x);
-    if i < from.len() {
-        to[i] as usize
-    } else {
-        count
+    match from.iter().position(|u| *u as usize == x) {
+        Some(i) => to[i] as usize,
+        None => count,
     }
 }
 

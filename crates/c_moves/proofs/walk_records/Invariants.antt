@@ -1,8 +1,13 @@
--- The moves that are left, from the plan reached, come to what the whole list comes to from the first plan.
+-- The moves that are left, from the plan reached, come to what the whole list comes to from the first plan; an accepted plan has taken
+-- as many as were looked at.
 use Rattle.std.proofs.Common.{◌≡◌, drop}
 use Rattle.move_plan.specs.Plan.{walk_of}
+use Rattle.move_plan.proofs.WalksStop.{Counted}
 use Rattle.c_moves.specs.Records.{moves_of}
 use Rattle.c_moves.proofs.walk_records.Given as goal
 
-abbrev pub invariant-loop-item : goal.invariant-loop-item
-invariant-loop-item l = walk_of l.positions (drop l.item-index (moves_of l.list)) l.plan ≡ walk_of l.positions (moves_of l.list) l.fn.start
+abbrev pub invariant-loop-i : goal.invariant-loop-i
+invariant-loop-i l = record {
+  so_far : walk_of l.positions (drop l.i (moves_of l.list)) l.plan ≡ walk_of l.positions (moves_of l.list) l.fn.start;
+  counted : Counted l.i l.plan;
+}

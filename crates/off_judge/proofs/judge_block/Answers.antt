@@ -1,6 +1,6 @@
 -- `judge_block` meets its contract. Assumes nothing.
 use native.Mathlib.Omega.{arith}
-use Rattle.off_judge.proofs.Stepping.{rows_passed, stepped_past, stepped_wider, judged_narrow, judged_wide}
+use Rattle.off_judge.proofs.Stepping.{rows_passed, stepped_past, stepped_wider, stepped_narrow, stepped_wide}
 use Rattle.off_judge.proofs.judge_block.Goals as goal
 use Rattle.off_judge.proofs.judge_block.Goals.{else-width-counts-via-then-width-counts+else-width-lt-PLACES, else-width-counts-via-else-width-counts}
 
@@ -29,9 +29,9 @@ pub returns-else-width-counts-clause-stepped : goal.returns-else-width-counts-cl
 returns-else-width-counts-clause-stepped c =
     elim c.else-width-counts.branch [
       | else-width-counts-via-then-width-counts+else-width-lt-PLACES w ↦
-          judged_wide c.requires.face_lines c.gather_faces.ensures.gathered c.requires.sofar c.rows_of-rows.ensures c.requires.count_value
+          stepped_wide c.requires.face_lines c.gather_faces.ensures.gathered c.requires.sofar c.rows_of-rows.ensures c.requires.count_value
           c.requires.at_lt_count c.stop_row-j.ensures c.first_unfit-unfit.ensures c.if-rows-j.false w.if-width-lt-PLACES.false w.if-width-counts.true
       | else-width-counts-via-else-width-counts w ↦
-          judged_narrow c.requires.face_lines c.gather_faces.ensures.gathered c.requires.sofar c.rows_of-rows.ensures c.requires.count_value
+          stepped_narrow c.requires.face_lines c.gather_faces.ensures.gathered c.requires.sofar c.rows_of-rows.ensures c.requires.count_value
           c.requires.at_lt_count c.stop_row-j.ensures c.first_unfit-unfit.ensures c.if-rows-j.false w.if-width-counts.false
     ]
