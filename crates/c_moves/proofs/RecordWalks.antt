@@ -1,14 +1,14 @@
 -- The walk of a list of records is that of the moves that they mean. Assumes nothing.
 use Prim.Native.Nat.{ℕ, ◌+◌, ◌≤◌, ◌<◌}
-use mathlib.Core.Path.{◌≡◌, sym, ap, ◌∙◌}
+use mathlib.Core.Path.{◌≡◌, sym, ap, subst, ◌∙◌}
 use mathlib.Core.List.{List}
 use native.Mathlib.Omega.{arith}
 use lib.IntN.{ℤ}
-use lib.ListN.{length, get_or, drop, get_or-map, length-map, drop_of_length-le}
+use lib.ListN.{length, get_or, drop, get_or-map, length-map}
 use Rattle.move_plan.specs.Plan.{step_of, ahead_of, walk_of}
 use Rattle.move_plan.specs.declared.Plan.{Plan}
 use Rattle.move_plan.proofs.Walks.{one_more, walk_over, walk_end}
-use Rattle.move_plan.proofs.WalksStop.{Counted, walk_stops}
+use Rattle.move_plan.proofs.WalksStop.{Counted, walk_ahead}
 use Rattle.c_moves.specs.Records.{move_of, moves_of}
 use Rattle.c_moves.specs.declared.MoveRecord.{MoveRecord}
 
@@ -23,7 +23,7 @@ module _ (ps : List ℤ) (list : List MoveRecord) (i : ℕ) (s : Plan) where
 
   -- where the walk stops
   pub records_ahead : Counted i s → ahead_of s (length list) ≤ i → walk_of ps (drop i (moves_of list)) s ≡ s
-  records_ahead c = walk_stops ps (drop i (moves_of list)) s i (length list) (λ l. drop_of_length-le (moves_of list) (omega (arith, length-map list move_of))) c
+  records_ahead c h = walk_ahead ps (moves_of list) i s c (subst (λ n. ahead_of s n ≤ i) (sym (length-map list move_of)) h)
 
 -- how a walk of records goes on, stops and ends
 pub ruleset walking_records = (one_record_more, walk_over, records_ahead, records_end)

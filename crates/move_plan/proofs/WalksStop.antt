@@ -1,7 +1,7 @@
 -- How far a list is looked at: no further once the plan is refused, and to its 64th move at most. What stands behind changes nothing:
 --     walk_stops       the moves that are left where the walk stops leave the plan as it is
 -- Assumes nothing.
-use mathlib.Core.Path.{◌≡◌, refl, ap, subst}
+use mathlib.Core.Path.{◌≡◌, refl, sym, ap, subst}
 use mathlib.Core.Bool.{Bool, true, false, cond}
 use mathlib.Core.List.{List, []}
 use mathlib.Core.Logic.{⊎_elim}
@@ -116,6 +116,10 @@ module _ (ps : List ℤ) where
     pub walk_stops : ahead_of s moves ≤ i → walk_of ps rest s ≡ s
     unfolding ahead_of
     walk_stops = stops_by s.verdict (ltb 64 moves) refl
+
+-- one move more, where the walk goes on: an accepted plan has taken one more
+pub counted_more : (ps : List ℤ) (moves i a : ℕ) (s r : Plan) (m : Move) → a ≡ ahead_of s moves → i < a → Counted i s → r ≡ step_of ps s m → Counted (i + 1) r
+counted_more ps moves i a s r m e l c q = subst (Counted (i + 1)) (sym q) (step_counted ps i s m moves (omega (arith, e)) c)
 
 -- the same of the moves of a list from place i on
 pub walk_ahead : (ps : List ℤ) (ms : List Move) (i : ℕ) (s : Plan) → Counted i s → ahead_of s (length ms) ≤ i → walk_of ps (drop i ms) s ≡ s

@@ -2,7 +2,8 @@
 ghost use Rattle.std.specs.Prelude.{◌≡◌, ◌≤◌, ◌<◌, take};
 ghost use Rattle.mesh.specs.Limits.{most_moves};
 ghost use Rattle.units.specs.Coordinate.{InRange};
-ghost use Rattle.move_plan.specs.Plan.{opened_plan, ahead_of, over, read_point, kept_point, latest_point, current_point, noted_in, refused_in, taken_in, step_of, walk_of};
+ghost use Rattle.move_plan.specs.Plan.{opened_plan, ahead_of, over, read_point, kept_point, latest_point, current_point};
+ghost use Rattle.move_plan.specs.Plan.{noted_in, refused_in, taken_in, step_of, walk_of};
 
 use super::{Entry, Move, Plan};
 use check_mesh::positions::is_beyond;

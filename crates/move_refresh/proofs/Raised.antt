@@ -164,8 +164,8 @@ module _ {n e levels : ℕ} {t : Lent} {ps₀ : List ℤ} (R : StackReady n e le
     room : (k : ℕ) → k ≤ levels → sum size (suc k) * 3 ≤ length ps₀
     room k l = let r = levels_room n levels t ps₀ R.accepted k l in let p = R.accepted.points in omega arith
 
-    raised_long : {k : ℕ} {below : Level} {map : List ℕ} {ps : List ℤ} → Raised n t ps₀ map₀ k below map ps → k ≤ levels → length ps ≡ length ps₀
-    raised_long {k} g h = ap length g.points ∙ P.positions_long n t before ps₀ k (room k h)
+    pub raised_length : {k : ℕ} {below : Level} {map : List ℕ} {ps : List ℤ} → Raised n t ps₀ map₀ k below map ps → k ≤ levels → length ps ≡ length ps₀
+    raised_length {k} g h = ap length g.points ∙ P.positions_long n t before ps₀ k (room k h)
 
     pub raised_begins : {k : ℕ} {below : Level} {map : List ℕ} {ps : List ℤ} → Raised n t ps₀ map₀ k below map ps → k ≤ levels → Begins t ps below
     raised_begins {k} g h =
@@ -173,7 +173,7 @@ module _ {n e levels : ℕ} {t : Lent} {ps₀ : List ℤ} (R : StackReady n e le
         let c = starts_climb k (suc levels) (omega arith) in
         let w = whole_small in
         let v = whole_is in
-        let e = raised_long g h in
+        let e = raised_length g h in
         let x = R.accepted.room.valences in
         let y = R.accepted.room.rings in
         let z = R.accepted.points in
@@ -313,7 +313,7 @@ module _ {n e levels : ℕ} {t : Lent} {ps₀ : List ℤ} (R : StackReady n e le
           let x = R.accepted.room.valences in
           let y = R.accepted.room.rings in
           let z = R.accepted.points in
-          let w = raised_long g (omega arith) in
+          let w = raised_length g (omega arith) in
           record {
             ready = record {
               room = record { valences = omega arith; rings = omega arith };
@@ -421,9 +421,6 @@ module _ {n e levels : ℕ} {t : Lent} {ps₀ : List ℤ} (R : StackReady n e le
               })
 
   -- ---- all levels done
-
-  pub raised_length : (map₀ : List ℕ) {k : ℕ} {below : Level} {map : List ℕ} {ps : List ℤ} → Raised n t ps₀ map₀ k below map ps → k ≤ levels → length ps ≡ length ps₀
-  raised_length map₀ g l = raised_long map₀ g l
 
   pub raised_end : (map₀ : List ℕ) {k : ℕ} {below : Level} {map : List ℕ} {ps : List ℤ} → Raised n t ps₀ map₀ k below map ps → k ≡ levels
       → TouchedMarked n levels t (marked map₀) (marked map) × (ps ≡ refreshed_positions n t (marked map₀) ps₀ levels)
